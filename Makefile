@@ -1,0 +1,17 @@
+# Two commands: `make test` is the gate, `make run` shows the product at work.
+SHELL := /bin/sh
+.SHELLFLAGS := -euc
+RT ?= rt
+
+.PHONY: test run
+
+# Every crate is proved from nothing, every must-fail edit is tried, every program is run.
+# The last line is the verdict: N passed, 0 failed.
+test:
+	$(RT) fmt --check
+	$(RT) ci
+
+# Proves the rules, and lists cases a to j of document 01, which one theorem of the crate says hold.
+run:
+	@$(RT) check rules
+	@sed -n 's/^ *-- \([a-j]\): \(.*\)/case \1 holds: \2/p' crates/rules/proofs/Cases.antt

@@ -1,0 +1,4 @@
+pub mod Replica
+pub mod Books
+pub mod Ledger
+pub mod Claim

@@ -1,0 +1,93 @@
+-- "Bytes" of document 01: where each number of a file stands, and a file written from its parts.
+-- Assumes nothing.
+use Prim.Native.Nat.{ℕ, zero, suc, _+_, _*_}
+use mathlib.Core.List.{List, [], _∷_, _++_}
+use lib.ListN.{getD}
+use Rattle.rules.specs.Loops.{flat, list}
+use Rattle.rules.specs.Numbers.{number, bytes, encode}
+use Rattle.rules.specs.Pile.{Side, draw, tip, other, Pile}
+use Rattle.rules.specs.Acts.{Kind, spend, give}
+
+-- A body is n + 1 rows of 2(n + 1) numbers: row 0 is the opening, row i + 1 belongs to desk i.
+unfoldable pub rowLength : ℕ → ℕ
+rowLength n = 8 * (n + 1)
+
+unfoldable pub bodyLength : ℕ → ℕ
+bodyLength n = 8 * ((n + 1) * (n + 1))
+
+-- where body k of a book of n desks and p piles starts; the book ends where a body p would
+unfoldable pub bodyAt : ℕ → ℕ → ℕ → ℕ
+bodyAt n p k = 4 + 6 * p + k * bodyLength n
+
+unfoldable pub bookLength : ℕ → ℕ → ℕ
+bookLength n p = bodyAt n p p
+
+-- where a row's column stands in a body
+unfoldable pub cellAt : ℕ → ℕ → ℕ → ℕ
+cellAt n row column = row * rowLength n + 4 * column
+
+-- The columns of a row with w places for each kind of gives or shares: floor or tipped, top or drawn, those of draw, those of tip.
+abbrev pub earnedColumn : Side → ℕ
+earnedColumn draw = 0
+earnedColumn tip = 1
+
+abbrev pub column : ℕ → Side → ℕ → ℕ
+column w draw j = 2 + j
+column w tip j = 2 + (w + j)
+
+-- the column of the tally that an act adds to
+abbrev pub actColumn : ℕ → Kind → ℕ
+actColumn w (spend s) = earnedColumn (other s)
+actColumn w (give s j) = column w s j
+
+-- the pile whose rows have w places for each kind, read through a function from row and column to a number
+abbrev pub view : ℕ → (ℕ → ℕ → ℕ) → Pile
+view w cell =
+    record {
+      floor = cell 0 0;
+      top = cell 0 1;
+      share = λ s i. cell 0 (column w s i);
+      earned = λ s i. cell (suc i) (earnedColumn s);
+      give = λ s i j. cell (suc i) (column w s j);
+    }
+
+-- the pile of the body that starts at a position of a list of bytes
+abbrev pub bodyView : ℕ → List ℕ → ℕ → Pile
+bodyView n b at = view n (λ row column. number 4 b (at + cellAt n row column))
+
+-- the head and the contents of a book
+abbrev pub desks : List ℕ → ℕ
+desks b = getD b 1 0
+
+abbrev pub piles : List ℕ → ℕ
+piles b = getD b 2 0
+
+unfoldable pub pileNumber : List ℕ → ℕ → ℕ
+pileNumber b k = number 2 b (4 + 6 * k)
+
+unfoldable pub position : List ℕ → ℕ → ℕ
+position b k = number 4 b (6 + 6 * k)
+
+unfoldable pub pileOf : List ℕ → ℕ → Pile
+pileOf b k = bodyView (desks b) b (bodyAt (desks b) (piles b) k)
+
+-- A body as its numbers: floor, top, n draw shares, n tip shares, then n rows, each tipped, drawn, draw gives, tip gives.
+unfoldable pub rowOf : ℕ → ℕ → ℕ → (Side → ℕ → ℕ) → List ℕ
+rowOf n a b f = a ∷ b ∷ (list n (f draw) ++ list n (f tip))
+
+unfoldable pub openingRow : ℕ → Pile → List ℕ
+openingRow n p = rowOf n (p .floor) (p .top) (p .share)
+
+unfoldable pub deskRow : ℕ → Pile → ℕ → List ℕ
+deskRow n p i = rowOf n (p .earned draw i) (p .earned tip i) (λ s. p .give s i)
+
+unfoldable pub bodyBytes : ℕ → Pile → List ℕ
+bodyBytes n p = encode (openingRow n p) ++ flat n (λ i. encode (deskRow n p i))
+
+-- a book from its desks, its piles, their numbers, and their bodies: version 1, n, p, 0, the contents, the bodies without gaps
+unfoldable pub entryBytes : ℕ → ℕ → (ℕ → ℕ) → ℕ → List ℕ
+entryBytes n p numbers k = bytes 2 (numbers k) ++ bytes 4 (bodyAt n p k)
+
+unfoldable pub bookBytes : ℕ → ℕ → (ℕ → ℕ) → (ℕ → Pile) → List ℕ
+bookBytes n p numbers pile =
+    (1 ∷ n ∷ p ∷ 0 ∷ []) ++ (flat p (entryBytes n p numbers) ++ flat p (λ k. bodyBytes n (pile k)))

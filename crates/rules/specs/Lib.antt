@@ -1,0 +1,12 @@
+pub mod Loops
+pub mod Refusals
+pub mod Numbers
+pub mod Pile
+pub mod Acts
+pub mod Layout
+pub mod Rows
+pub mod Opening
+pub mod Book
+pub mod Record
+pub mod Take
+pub mod Demand

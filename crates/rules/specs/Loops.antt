@@ -1,0 +1,32 @@
+-- Loops over the numbers below n, as a program's loop goes: the last turn is added to what the turns before it gave.
+-- Assumes nothing.
+use Prim.Native.Nat.{ℕ, zero, suc, _+_}
+use mathlib.Core.Bool.{Bool, true, false, cond, not, _&&_}
+use mathlib.Core.List.{List, [], _∷_, _++_}
+
+-- f 0 + .. + f (n - 1)
+unfoldable pub sum : ℕ → (ℕ → ℕ) → ℕ
+sum zero f = 0
+sum (suc n) f = sum n f + f n
+
+-- does the test hold at every number below n; at some number below n
+unfoldable pub every : ℕ → (ℕ → Bool) → Bool
+every zero t = true
+every (suc n) t = every n t && t n
+
+unfoldable pub some : ℕ → (ℕ → Bool) → Bool
+some n t = not (every n (λ k. not (t k)))
+
+-- the first number below n at which the test holds, or n
+unfoldable pub index : ℕ → (ℕ → Bool) → ℕ
+index zero t = zero
+index (suc n) t = cond (t zero) zero (suc (index n (λ k. t (suc k))))
+
+-- f 0 ++ .. ++ f (n - 1)
+unfoldable pub flat : {A : Type 0} → ℕ → (ℕ → List A) → List A
+flat zero f = []
+flat (suc n) f = flat n f ++ f n
+
+-- the list of f 0 .. f (n - 1)
+unfoldable pub list : {A : Type 0} → ℕ → (ℕ → A) → List A
+list n f = flat n (λ k. f k ∷ [])

@@ -1,0 +1,24 @@
+-- Numbers in bytes: unsigned, low byte first (little-endian), w bytes wide.
+-- Assumes nothing.
+use Prim.Native.Nat.{ℕ, zero, suc, _+_, _*_, _/_, _%_}
+use mathlib.Core.List.{List, [], _∷_, _++_}
+use lib.ListN.{getD, take, drop}
+
+-- the number at a position of a list of bytes
+unfoldable pub number : ℕ → List ℕ → ℕ → ℕ
+number zero b at = 0
+number (suc w) b at = getD b at 0 + 256 * number w b (suc at)
+
+-- a number's bytes
+unfoldable pub bytes : ℕ → ℕ → List ℕ
+bytes zero x = []
+bytes (suc w) x = x % 256 ∷ bytes w (x / 256)
+
+-- the bytes of a list of 4-byte numbers
+unfoldable pub encode : List ℕ → List ℕ
+encode [] = []
+encode (x ∷ xs) = bytes 4 x ++ encode xs
+
+-- a part of a list: so many elements from a position
+abbrev pub part : {A : Type 0} → ℕ → ℕ → List A → List A
+part at count l = take count (drop at l)

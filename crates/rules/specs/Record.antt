@@ -1,0 +1,131 @@
+-- A pile record in memory: n, floor, top, and all 8 rows and 8 shares of each kind, those past n being zero.
+-- Assumes nothing.
+use Prim.Native.Nat.{ℕ, zero, suc, _+_, _*_}
+use mathlib.Core.Bool.{Bool, true, false, cond, not, _&&_, _||_}
+use mathlib.Core.List.{List, [], _∷_, _++_}
+use lib.ListN.{getD, set, replicate}
+use lib.Dec.{ltb, eqb}
+use lib.Seq.{sets}
+use Rattle.rules.specs.Loops.{every, flat, list}
+use Rattle.rules.specs.Refusals.{_when_, _orElse_, done, Reply, reply}
+use Rattle.rules.specs.Pile.{Side, draw, tip, Pile, openingLawful, talliesLawful, lawful, sameOpening, rights, tonnage}
+use Rattle.rules.specs.Acts.{Kind, tally, actRefusal}
+use Rattle.rules.specs.Layout.{column, actColumn, view, desks, piles, pileOf, bodyAt, bodyBytes}
+use Rattle.rules.specs.Opening.{between, deskLimit}
+use Rattle.rules.specs.Book.{place, fetchAnswer}
+
+-- The flat arrays: the share of side s and desk j stands at 8s + j; row i of the tallies at 18i, its columns as in a body of 8 desks.
+pub record Record : Type 0 where
+  pub n : ℕ
+  pub floor : ℕ
+  pub top : ℕ
+  pub shares : List ℕ
+  pub tallies : List ℕ
+
+abbrev pub rowPlaces : ℕ
+rowPlaces = 18
+
+abbrev pub recordCell : Record → ℕ → ℕ → ℕ
+recordCell r zero c = getD (r .floor ∷ r .top ∷ r .shares) c 0
+recordCell r (suc i) c = getD (r .tallies) (rowPlaces * i + c) 0
+
+abbrev pub recordView : Record → Pile
+recordView r = view deskLimit (recordCell r)
+
+-- shares past n are 0; so are the tallies of desks past n, and the gives to them
+abbrev pub bothZero : (Side → ℕ) → Bool
+bothZero f = eqb (f draw) 0 && eqb (f tip) 0
+
+unfoldable pub unusedShares : ℕ → Pile → Bool
+unusedShares n p = every deskLimit (λ j. ltb j n || bothZero (λ s. p .share s j))
+
+unfoldable pub unusedPlaces : ℕ → Pile → Bool
+unusedPlaces n p =
+    every deskLimit (λ i. (ltb i n || bothZero (λ s. p .earned s i))
+    && every deskLimit (λ j. (ltb i n && ltb j n) || bothZero (λ s. p .give s i j)))
+
+-- "Pile record alone": 2, 5, 6 and 7
+unfoldable pub recordAnswer : Record → ℕ
+recordAnswer r =
+    2 when not (between 1 deskLimit (r .n))
+    orElse 5 when not (openingLawful (r .n) (recordView r) && unusedShares (r .n) (recordView r))
+    orElse 6 when not (every (r .n) (talliesLawful (r .n) (recordView r)) && unusedPlaces (r .n) (recordView r))
+    orElse 7 when not (lawful (r .n) (recordView r))
+
+abbrev pub zeroTallies : List ℕ
+zeroTallies = replicate (rowPlaces * deskLimit) 0
+
+abbrev pub zeroRecord : Record
+zeroRecord = record { n = 0; floor = 0; top = 0; shares = replicate (2 * deskLimit) 0; tallies = zeroTallies }
+
+-- a fresh record, from n, floor, top and shares alone: all zeros where it is refused
+abbrev pub fresh : ℕ → ℕ → ℕ → List ℕ → Record
+fresh n floor top shares = record { n = n; floor = floor; top = top; shares = shares; tallies = zeroTallies }
+
+unfoldable pub freshAnswer : ℕ → ℕ → ℕ → List ℕ → ℕ
+freshAnswer n floor top shares = recordAnswer (fresh n floor top shares)
+
+unfoldable pub freshRecord : ℕ → ℕ → ℕ → List ℕ → Record
+freshRecord n floor top shares = done (freshAnswer n floor top shares) (fresh n floor top shares) zeroRecord
+
+unfoldable pub recordTonnageReply : Record → Reply
+recordTonnageReply r = reply (recordAnswer r) (tonnage (r .n) (recordView r))
+
+-- "Act or rights query": the record's own, then 11
+unfoldable pub recordDeskAnswer : ℕ → Record → ℕ
+recordDeskAnswer i r = recordAnswer r orElse 11 when not (ltb i (r .n))
+
+unfoldable pub recordRightsReply : Side → ℕ → Record → Reply
+recordRightsReply s i r = reply (recordDeskAnswer i r) (rights (r .n) (recordView r) s i)
+
+-- an act of desk i, and the record after it: unaltered where it is refused
+unfoldable pub recordActAnswer : ℕ → Kind → ℕ → Record → ℕ
+recordActAnswer i kind t r = recordDeskAnswer i r orElse actRefusal (r .n) (recordView r) i kind t
+
+unfoldable pub recordAfterAct : ℕ → Kind → ℕ → Record → Record
+recordAfterAct i kind t r =
+    done (recordActAnswer i kind t r)
+    (record {
+      n = r .n;
+      floor = r .floor;
+      top = r .top;
+      shares = r .shares;
+      tallies = set (r .tallies) (rowPlaces * i + actColumn deskLimit kind) (tally (recordView r) i kind + t);
+    })
+    r
+
+-- a pile of n desks as a record, its unused places 0
+abbrev pub padded : ℕ → (ℕ → ℕ) → ℕ → ℕ
+padded n f j = cond (ltb j n) (f j) 0
+
+unfoldable pub paddedRow : ℕ → Pile → ℕ → List ℕ
+paddedRow n p i =
+    padded n (p .earned draw) i ∷ padded n (p .earned tip) i
+    ∷ (list deskLimit (λ j. padded n (λ i. padded n (p .give draw i) j) i)
+    ++ list deskLimit (λ j. padded n (λ i. padded n (p .give tip i) j) i))
+
+unfoldable pub recordOf : ℕ → Pile → Record
+recordOf n p =
+    record {
+      n = n;
+      floor = p .floor;
+      top = p .top;
+      shares = list deskLimit (padded n (p .share draw)) ++ list deskLimit (padded n (p .share tip));
+      tallies = flat deskLimit (paddedRow n p);
+    }
+
+-- fetching a pile: all zeros where it is refused
+unfoldable pub fetched : List ℕ → ℕ → Record
+fetched b number = done (fetchAnswer b number) (recordOf (desks b) (pileOf b (place b number))) zeroRecord
+
+-- storing a pile: the book's own, 10, the record's own, then 30
+unfoldable pub storeAnswer : List ℕ → ℕ → Record → ℕ
+storeAnswer b number r =
+    fetchAnswer b number
+    orElse recordAnswer r
+    orElse 30 when not (eqb (r .n) (desks b) && sameOpening (desks b) (recordView r) (pileOf b (place b number)))
+
+unfoldable pub afterStore : List ℕ → ℕ → Record → List ℕ
+afterStore b number r =
+    done (storeAnswer b number r)
+    (sets b (bodyAt (desks b) (piles b) (place b number)) (bodyBytes (desks b) (recordView r))) b
