@@ -3,10 +3,10 @@
 use Prim.Native.Nat.{ℕ, zero, suc}
 use mathlib.Core.Path.{_≡_, refl}
 use mathlib.Core.List.{List, [], _∷_, _++_}
-use Rattle.rules.specs.Loops.{sum, every, some, index, flat, list}
-use Rattle.rules.specs.Refusals.{first, Reply, refused, value}
+use Rattle.rules.specs.Loops.{_and_, _or_, sum, every, some, index, flat, list}
+use Rattle.rules.specs.Refusals.{_when_, _orElse_, first, done, Reply, refused, value, reply}
 use Rattle.rules.specs.Numbers.{number, bytes, encode}
-use Rattle.rules.specs.Pile.{Side, draw, tip, credit, debit, rights, lawful, tonnage, openingLawful, talliesLawful, pileAnswer, sameOpening}
+use Rattle.rules.specs.Pile.{Side, draw, tip, bothSides, credit, debit, rights, lawful, tonnage, openingLawful, talliesLawful, pileAnswer, sameOpening}
 use Rattle.rules.specs.Acts.{Kind, spend, give, Act, actRefusal}
 use Rattle.rules.specs.Layout.{rowLength, bodyLength, bodyAt, bookLength, cellAt, pileNumber, position, pileOf, rowOf, openingRow, deskRow, bodyBytes, entryBytes, bookBytes}
 use Rattle.rules.specs.Rows.{atLeast, alike, later, split, isRowLength, laterRow}
@@ -114,5 +114,5 @@ table =
     ∷ []
 
 pub cases-hold : AllHold table
-unfolding F G AllHold shown on7 answers enter table sum every some index flat list first number bytes encode credit debit rights lawful tonnage openingLawful talliesLawful pileAnswer sameOpening actRefusal rowLength bodyLength bodyAt bookLength cellAt pileNumber position pileOf rowOf openingRow deskRow bodyBytes entryBytes bookBytes atLeast alike later split isRowLength laterRow rising given givenPile openingAnswer opened headRight contentsRight bookAnswer place absent fetchAnswer tonnageReply deskAnswer rightsReply actAnswer tallyAt afterAct rowPart sameBook rowAnswer takeAnswer taken afterTake
+unfolding F G AllHold shown on7 answers enter table _and_ _or_ sum every some index flat list _when_ _orElse_ first done reply number bytes encode bothSides credit debit rights lawful tonnage openingLawful talliesLawful pileAnswer sameOpening actRefusal rowLength bodyLength bodyAt bookLength cellAt pileNumber position pileOf rowOf openingRow deskRow bodyBytes entryBytes bookBytes atLeast alike later split isRowLength laterRow rising given givenPile openingAnswer opened headRight contentsRight bookAnswer place absent fetchAnswer tonnageReply deskAnswer rightsReply actAnswer tallyAt afterAct rowPart sameBook rowAnswer takeAnswer taken afterTake
 cases-hold = (refl, (refl, (refl, (refl, (refl, (refl, (refl, (refl, (refl, (refl, (refl, (refl, (refl, tt)))))))))))))

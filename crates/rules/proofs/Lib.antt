@@ -1,1 +1,9 @@
 pub mod Cases
+pub mod Sums
+pub mod Tests
+pub mod Facts
+pub mod Tonnage
+pub mod Acted
+pub mod Order
+pub mod Flat
+pub mod Bytes

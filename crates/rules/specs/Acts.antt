@@ -1,8 +1,9 @@
 -- The four acts: tip, draw, give draw rights, give tip rights.
 -- Assumes nothing.
 use Prim.Native.Nat.{ℕ, _+_}
-use mathlib.Core.Bool.{Bool, true, false, cond, not, _&&_, _||_}
+use mathlib.Core.Bool.{Bool, true, false, cond, not}
 use lib.Dec.{ltb, eqb}
+use Rattle.rules.specs.Loops.{_and_, _or_}
 use Rattle.rules.specs.Refusals.{_when_, _orElse_}
 use Rattle.rules.specs.Pile.{Side, draw, tip, other, Pile, rights, tallyLimit, amountLimit}
 
@@ -30,13 +31,13 @@ tally p i (give s j) = p .give s i j
 -- receiver ≥ n, or the giver itself
 abbrev pub receiverWrong : ℕ → ℕ → Kind → Bool
 receiverWrong n i (spend s) = false
-receiverWrong n i (give s j) = not (ltb j n) || eqb j i
+receiverWrong n i (give s j) = not (ltb j n) or eqb j i
 
 -- 12 to 15, for desk i and an amount of t
 unfoldable pub actRefusal : ℕ → Pile → ℕ → Kind → ℕ → ℕ
 actRefusal n p i kind t =
     12 when receiverWrong n i kind
-    orElse 13 when (eqb t 0 || ltb amountLimit t)
+    orElse 13 when (eqb t 0 or ltb amountLimit t)
     orElse 14 when ltb (rights n p (side kind) i) t
     orElse 15 when ltb tallyLimit (tally p i kind + t)
 
@@ -53,7 +54,7 @@ acted p i (spend s) t =
       floor = p .floor;
       top = p .top;
       share = p .share;
-      earned = λ s′ k. cond (sameSide s′ (other s) && eqb k i) (p .earned s′ k + t) (p .earned s′ k);
+      earned = λ s′ k. cond (sameSide s′ (other s) and eqb k i) (p .earned s′ k + t) (p .earned s′ k);
       give = p .give;
     }
 acted p i (give s j) t =
@@ -62,5 +63,5 @@ acted p i (give s j) t =
       top = p .top;
       share = p .share;
       earned = p .earned;
-      give = λ s′ k l. cond (sameSide s′ s && (eqb k i && eqb l j)) (p .give s′ k l + t) (p .give s′ k l);
+      give = λ s′ k l. cond (sameSide s′ s and (eqb k i and eqb l j)) (p .give s′ k l + t) (p .give s′ k l);
     }

@@ -2,12 +2,12 @@
 -- A book is the list of its bytes.
 -- Assumes nothing.
 use Prim.Native.Nat.{ℕ, suc, _+_}
-use mathlib.Core.Bool.{Bool, not, _&&_}
+use mathlib.Core.Bool.{Bool, not}
 use mathlib.Core.List.{List, [], _++_}
 use lib.ListN.{length, getD, drop}
 use lib.Dec.{ltb, eqb}
 use lib.Seq.{sets}
-use Rattle.rules.specs.Loops.{every, index, list}
+use Rattle.rules.specs.Loops.{_and_, every, index, list}
 use Rattle.rules.specs.Refusals.{_when_, _orElse_, first, done, Reply, reply}
 use Rattle.rules.specs.Numbers.{bytes, part}
 use Rattle.rules.specs.Pile.{Side, Pile, pileAnswer, rights, tonnage}
@@ -18,11 +18,11 @@ use Rattle.rules.specs.Opening.{between, deskLimit, pileLimit, rising}
 -- version 1, n, p, 0
 unfoldable pub headRight : List ℕ → Bool
 headRight b =
-    eqb (getD b 0 0) 1 && between 1 deskLimit (desks b) && between 1 pileLimit (piles b) && eqb (getD b 3 0) 0
+    eqb (getD b 0 0) 1 and between 1 deskLimit (desks b) and between 1 pileLimit (piles b) and eqb (getD b 3 0) 0
 
 unfoldable pub contentsRight : List ℕ → Bool
 contentsRight b =
-    rising (piles b) (pileNumber b) && every (piles b) (λ k. eqb (position b k) (bodyAt (desks b) (piles b) k))
+    rising (piles b) (pileNumber b) and every (piles b) (λ k. eqb (position b k) (bodyAt (desks b) (piles b) k))
 
 -- "Book bytes", then "Each body, in file order"
 unfoldable pub bookAnswer : List ℕ → ℕ

@@ -17,14 +17,14 @@ bodyLength n = 8 * ((n + 1) * (n + 1))
 
 -- where body k of a book of n desks and p piles starts; the book ends where a body p would
 unfoldable pub bodyAt : ℕ → ℕ → ℕ → ℕ
-bodyAt n p k = 4 + 6 * p + k * bodyLength n
+bodyAt n p k = 4 + p * 6 + k * bodyLength n
 
 unfoldable pub bookLength : ℕ → ℕ → ℕ
 bookLength n p = bodyAt n p p
 
 -- where a row's column stands in a body
 unfoldable pub cellAt : ℕ → ℕ → ℕ → ℕ
-cellAt n row column = row * rowLength n + 4 * column
+cellAt n row column = row * rowLength n + column * 4
 
 -- The columns of a row with w places for each kind of gives or shares: floor or tipped, top or drawn, those of draw, those of tip.
 abbrev pub earnedColumn : Side → ℕ
@@ -63,10 +63,10 @@ abbrev pub piles : List ℕ → ℕ
 piles b = getD b 2 0
 
 unfoldable pub pileNumber : List ℕ → ℕ → ℕ
-pileNumber b k = number 2 b (4 + 6 * k)
+pileNumber b k = number 2 b (4 + k * 6)
 
 unfoldable pub position : List ℕ → ℕ → ℕ
-position b k = number 4 b (6 + 6 * k)
+position b k = number 4 b (6 + k * 6)
 
 unfoldable pub pileOf : List ℕ → ℕ → Pile
 pileOf b k = bodyView (desks b) b (bodyAt (desks b) (piles b) k)

@@ -1,8 +1,18 @@
--- Loops over the numbers below n, as a program's loop goes: the last turn is added to what the turns before it gave.
+-- Tests, and loops over the numbers below n as a program's loop goes: the last turn is added to what the turns before it gave.
 -- Assumes nothing.
 use Prim.Native.Nat.{ℕ, zero, suc, _+_}
-use mathlib.Core.Bool.{Bool, true, false, cond, not, _&&_}
+use mathlib.Core.Bool.{Bool, true, false, cond, not}
 use mathlib.Core.List.{List, [], _∷_, _++_}
+
+infixr 40 _and_
+infixr 40 _or_
+unfoldable pub _and_ : Bool → Bool → Bool
+true and b = b
+false and b = false
+
+unfoldable pub _or_ : Bool → Bool → Bool
+true or b = true
+false or b = b
 
 -- f 0 + .. + f (n - 1)
 unfoldable pub sum : ℕ → (ℕ → ℕ) → ℕ
@@ -12,7 +22,7 @@ sum (suc n) f = sum n f + f n
 -- does the test hold at every number below n; at some number below n
 unfoldable pub every : ℕ → (ℕ → Bool) → Bool
 every zero t = true
-every (suc n) t = every n t && t n
+every (suc n) t = every n t and t n
 
 unfoldable pub some : ℕ → (ℕ → Bool) → Bool
 some n t = not (every n (λ k. not (t k)))

@@ -1,18 +1,18 @@
 -- Opening a book from n, p and a list of 4-byte numbers: for each pile its number, floor, top and shares. Tallies start at 0.
 -- Assumes nothing.
 use Prim.Native.Nat.{ℕ, zero, suc, _+_, _*_}
-use mathlib.Core.Bool.{Bool, not, _&&_}
+use mathlib.Core.Bool.{Bool, not}
 use mathlib.Core.List.{List}
 use lib.ListN.{length, getD}
 use lib.Dec.{leb, ltb, eqb}
 use lib.Seq.{sets}
-use Rattle.rules.specs.Loops.{every}
+use Rattle.rules.specs.Loops.{_and_, every}
 use Rattle.rules.specs.Refusals.{_when_, _orElse_, first, done}
 use Rattle.rules.specs.Pile.{Pile, openingLawful}
 use Rattle.rules.specs.Layout.{column, bookLength, bookBytes}
 
 abbrev pub between : ℕ → ℕ → ℕ → Bool
-between low high x = leb low x && leb x high
+between low high x = leb low x and leb x high
 
 abbrev pub deskLimit : ℕ
 deskLimit = 8
@@ -29,7 +29,7 @@ previous f zero = 0
 previous f (suc k) = f k
 
 unfoldable pub rising : ℕ → (ℕ → ℕ) → Bool
-rising p f = every p (λ k. ltb (previous f k) (f k) && leb (f k) pileNumberLimit)
+rising p f = every p (λ k. ltb (previous f k) (f k) and leb (f k) pileNumberLimit)
 
 -- the list's numbers for pile k
 unfoldable pub given : ℕ → List ℕ → ℕ → ℕ → ℕ
@@ -48,7 +48,7 @@ givenPile n l k =
 -- "Opening": 2, 3, 4, 5 by pile, and 8 where the lent output has less room than the book needs
 unfoldable pub openingAnswer : ℕ → ℕ → List ℕ → ℕ → ℕ
 openingAnswer n p l room =
-    2 when not (between 1 deskLimit n && between 1 pileLimit p)
+    2 when not (between 1 deskLimit n and between 1 pileLimit p)
     orElse 3 when not (eqb (length l) (p * (3 + 2 * n)))
     orElse 4 when not (rising p (λ k. given n l k 0))
     orElse first p (λ k. 5 when not (openingLawful n (givenPile n l k)))

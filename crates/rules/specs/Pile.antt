@@ -2,9 +2,9 @@
 -- It is the Bounded Counter of source document 000 (Figure 1) kept twice: the side `draw` guards the floor, the side `tip` the top.
 -- Assumes nothing.
 use Prim.Native.Nat.{ℕ, _+_, _-_}
-use mathlib.Core.Bool.{Bool, not, _&&_}
+use mathlib.Core.Bool.{Bool, not}
 use lib.Dec.{leb, eqb}
-use Rattle.rules.specs.Loops.{sum, every}
+use Rattle.rules.specs.Loops.{_and_, sum, every}
 use Rattle.rules.specs.Refusals.{_when_, _orElse_}
 
 pub data Side : Type 0 where
@@ -13,6 +13,9 @@ pub data Side : Type 0 where
 abbrev pub other : Side → Side
 other draw = tip
 other tip = draw
+
+unfoldable pub bothSides : (Side → Bool) → Bool
+bothSides t = t draw and t tip
 
 -- A pile read by side and desk, wherever its numbers stand. Only desks below n are read.
 pub record Pile : Type 0 where
@@ -48,7 +51,7 @@ rights n p s i = credit n p s i - debit n p s i
 
 -- no rights are negative
 unfoldable pub lawful : ℕ → Pile → Bool
-lawful n p = every n (λ i. leb (debit n p draw i) (credit n p draw i) && leb (debit n p tip i) (credit n p tip i))
+lawful n p = every n (λ i. bothSides (λ s. leb (debit n p s i) (credit n p s i)))
 
 -- the tonnage now, Figure 1's value: floor + all draw shares + all tipped - all drawn
 unfoldable pub tonnage : ℕ → Pile → ℕ
@@ -58,17 +61,14 @@ tonnage n p = p .floor + sum n (p .share draw) + sum n (p .earned draw) - sum n 
 unfoldable pub openingLawful : ℕ → Pile → Bool
 openingLawful n p =
     leb (p .floor) (p .top)
-    && leb (p .top) topLimit
-    && eqb (sum n (p .share draw) + sum n (p .share tip)) (p .top - p .floor)
+    and leb (p .top) topLimit
+    and eqb (sum n (p .share draw) + sum n (p .share tip)) (p .top - p .floor)
 
 -- each tally of desk i is within its limit, and its gives to itself are 0
 unfoldable pub talliesLawful : ℕ → Pile → ℕ → Bool
 talliesLawful n p i =
-    leb (p .earned draw i) tallyLimit
-    && leb (p .earned tip i) tallyLimit
-    && every n (λ j. leb (p .give draw i j) tallyLimit && leb (p .give tip i j) tallyLimit)
-    && eqb (p .give draw i i) 0
-    && eqb (p .give tip i i) 0
+    bothSides
+    (λ s. leb (p .earned s i) tallyLimit and every n (λ j. leb (p .give s i j) tallyLimit) and eqb (p .give s i i) 0)
 
 -- "Each body": 5, 6 and 7
 unfoldable pub pileAnswer : ℕ → Pile → ℕ
@@ -81,5 +81,5 @@ pileAnswer n p =
 unfoldable pub sameOpening : ℕ → Pile → Pile → Bool
 sameOpening n p q =
     eqb (p .floor) (q .floor)
-    && eqb (p .top) (q .top)
-    && every n (λ i. eqb (p .share draw i) (q .share draw i) && eqb (p .share tip i) (q .share tip i))
+    and eqb (p .top) (q .top)
+    and every n (λ i. bothSides (λ s. eqb (p .share s i) (q .share s i)))

@@ -1,14 +1,14 @@
 -- A pile record in memory: n, floor, top, and all 8 rows and 8 shares of each kind, those past n being zero.
 -- Assumes nothing.
 use Prim.Native.Nat.{ℕ, zero, suc, _+_, _*_}
-use mathlib.Core.Bool.{Bool, true, false, cond, not, _&&_, _||_}
+use mathlib.Core.Bool.{Bool, true, false, cond, not}
 use mathlib.Core.List.{List, [], _∷_, _++_}
 use lib.ListN.{getD, set, replicate}
 use lib.Dec.{ltb, eqb}
 use lib.Seq.{sets}
-use Rattle.rules.specs.Loops.{every, flat, list}
+use Rattle.rules.specs.Loops.{_and_, _or_, every, flat, list}
 use Rattle.rules.specs.Refusals.{_when_, _orElse_, done, Reply, reply}
-use Rattle.rules.specs.Pile.{Side, draw, tip, Pile, openingLawful, talliesLawful, lawful, sameOpening, rights, tonnage}
+use Rattle.rules.specs.Pile.{Side, draw, tip, bothSides, Pile, openingLawful, talliesLawful, lawful, sameOpening, rights, tonnage}
 use Rattle.rules.specs.Acts.{Kind, tally, actRefusal}
 use Rattle.rules.specs.Layout.{column, actColumn, view, desks, piles, pileOf, bodyAt, bodyBytes}
 use Rattle.rules.specs.Opening.{between, deskLimit}
@@ -27,29 +27,29 @@ rowPlaces = 18
 
 abbrev pub recordCell : Record → ℕ → ℕ → ℕ
 recordCell r zero c = getD (r .floor ∷ r .top ∷ r .shares) c 0
-recordCell r (suc i) c = getD (r .tallies) (rowPlaces * i + c) 0
+recordCell r (suc i) c = getD (r .tallies) (i * rowPlaces + c) 0
 
 abbrev pub recordView : Record → Pile
 recordView r = view deskLimit (recordCell r)
 
 -- shares past n are 0; so are the tallies of desks past n, and the gives to them
 abbrev pub bothZero : (Side → ℕ) → Bool
-bothZero f = eqb (f draw) 0 && eqb (f tip) 0
+bothZero f = bothSides (λ s. eqb (f s) 0)
 
 unfoldable pub unusedShares : ℕ → Pile → Bool
-unusedShares n p = every deskLimit (λ j. ltb j n || bothZero (λ s. p .share s j))
+unusedShares n p = every deskLimit (λ j. ltb j n or bothZero (λ s. p .share s j))
 
 unfoldable pub unusedPlaces : ℕ → Pile → Bool
 unusedPlaces n p =
-    every deskLimit (λ i. (ltb i n || bothZero (λ s. p .earned s i))
-    && every deskLimit (λ j. (ltb i n && ltb j n) || bothZero (λ s. p .give s i j)))
+    every deskLimit (λ i. (ltb i n or bothZero (λ s. p .earned s i))
+    and every deskLimit (λ j. (ltb i n and ltb j n) or bothZero (λ s. p .give s i j)))
 
 -- "Pile record alone": 2, 5, 6 and 7
 unfoldable pub recordAnswer : Record → ℕ
 recordAnswer r =
     2 when not (between 1 deskLimit (r .n))
-    orElse 5 when not (openingLawful (r .n) (recordView r) && unusedShares (r .n) (recordView r))
-    orElse 6 when not (every (r .n) (talliesLawful (r .n) (recordView r)) && unusedPlaces (r .n) (recordView r))
+    orElse 5 when not (openingLawful (r .n) (recordView r) and unusedShares (r .n) (recordView r))
+    orElse 6 when not (every (r .n) (talliesLawful (r .n) (recordView r)) and unusedPlaces (r .n) (recordView r))
     orElse 7 when not (lawful (r .n) (recordView r))
 
 abbrev pub zeroTallies : List ℕ
@@ -90,7 +90,7 @@ recordAfterAct i kind t r =
       floor = r .floor;
       top = r .top;
       shares = r .shares;
-      tallies = set (r .tallies) (rowPlaces * i + actColumn deskLimit kind) (tally (recordView r) i kind + t);
+      tallies = set (r .tallies) (i * rowPlaces + actColumn deskLimit kind) (tally (recordView r) i kind + t);
     })
     r
 
@@ -123,7 +123,7 @@ unfoldable pub storeAnswer : List ℕ → ℕ → Record → ℕ
 storeAnswer b number r =
     fetchAnswer b number
     orElse recordAnswer r
-    orElse 30 when not (eqb (r .n) (desks b) && sameOpening (desks b) (recordView r) (pileOf b (place b number)))
+    orElse 30 when not (eqb (r .n) (desks b) and sameOpening (desks b) (recordView r) (pileOf b (place b number)))
 
 unfoldable pub afterStore : List ℕ → ℕ → Record → List ℕ
 afterStore b number r =

@@ -7,12 +7,12 @@ use lib.Dec.{eqb}
 infix 35 _when_
 infixr 30 _orElse_
 -- a line of the table: this number under this condition
-abbrev pub _when_ : ℕ → Bool → ℕ
+unfoldable pub _when_ : ℕ → Bool → ℕ
 number when true = number
 number when false = 0
 
 -- the first refusal, or what comes after it in the table
-abbrev pub _orElse_ : ℕ → ℕ → ℕ
+unfoldable pub _orElse_ : ℕ → ℕ → ℕ
 zero orElse rest = rest
 suc number orElse rest = suc number
 
@@ -22,7 +22,7 @@ first zero f = 0
 first (suc n) f = first n f orElse f n
 
 -- what a call leaves or hands out: the first where it is answered 0, the second where it is refused
-abbrev pub done : {A : Type 0} → ℕ → A → A → A
+unfoldable pub done : {A : Type 0} → ℕ → A → A → A
 done answer after before = cond (eqb answer 0) after before
 
 -- the answer of a query: the value, or the refusal's number alone
@@ -30,5 +30,5 @@ pub data Reply : Type 0 where
   refused : ℕ → Reply
   value : ℕ → Reply
 
-abbrev pub reply : ℕ → ℕ → Reply
+unfoldable pub reply : ℕ → ℕ → Reply
 reply answer x = done answer (value x) (refused answer)

@@ -1,11 +1,11 @@
 -- Comparing two rows of m numbers, each read as a function of its place.
 -- Assumes nothing.
 use Prim.Native.Nat.{ℕ, suc, _*_, _/_}
-use mathlib.Core.Bool.{Bool, cond, not, _&&_, _||_}
+use mathlib.Core.Bool.{Bool, cond, not}
 use mathlib.Core.List.{List, []}
 use lib.ListN.{length}
 use lib.Dec.{leb, eqb}
-use Rattle.rules.specs.Loops.{every, some}
+use Rattle.rules.specs.Loops.{_and_, _or_, every, some}
 use Rattle.rules.specs.Numbers.{number}
 use Rattle.rules.specs.Layout.{rowLength}
 
@@ -18,15 +18,15 @@ alike m f g = every m (λ c. eqb (f c) (g c))
 
 -- Later: at least the other at every place, and differs from it (strict domination in the product order).
 unfoldable pub later : ℕ → (ℕ → ℕ) → (ℕ → ℕ) → Bool
-later m f g = atLeast m f g && not (alike m f g)
+later m f g = atLeast m f g and not (alike m f g)
 
 -- Split: the rows differ with neither later (a fork: the desk acted twice from one old book).
 unfoldable pub split : ℕ → (ℕ → ℕ) → (ℕ → ℕ) → Bool
-split m f g = not (alike m f g) && not (later m f g) && not (later m g f)
+split m f g = not (alike m f g) and not (later m f g) and not (later m g f)
 
 -- the numbers of a row that stands in bytes, and how many they are
 abbrev pub numbersOf : List ℕ → ℕ → ℕ
-numbersOf row c = number 4 row (4 * c)
+numbersOf row c = number 4 row (c * 4)
 
 abbrev pub places : List ℕ → ℕ
 places row = length row / 4
@@ -39,5 +39,5 @@ isRowLength ℓ = some 8 (λ k. eqb ℓ (rowLength (suc k)))
 -- differ in length, have the length of no row, or are split.
 unfoldable pub laterRow : List ℕ → List ℕ → List ℕ
 laterRow a b =
-    cond (not (isRowLength (length a)) || not (eqb (length a) (length b)) || split (places a) (numbersOf a) (numbersOf b)) []
+    cond (not (isRowLength (length a)) or not (eqb (length a) (length b)) or split (places a) (numbersOf a) (numbersOf b)) []
     (cond (later (places a) (numbersOf b) (numbersOf a)) b a)

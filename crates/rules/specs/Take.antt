@@ -1,10 +1,10 @@
 -- Taking in another desk's copy: a state-based merge, row by row.
 -- Assumes nothing.
 use Prim.Native.Nat.{ℕ, zero, suc, _+_, _*_}
-use mathlib.Core.Bool.{Bool, not, _&&_}
+use mathlib.Core.Bool.{Bool, not}
 use mathlib.Core.List.{List, _++_}
 use lib.Dec.{ltb, eqb}
-use Rattle.rules.specs.Loops.{every, flat}
+use Rattle.rules.specs.Loops.{_and_, every, flat}
 use Rattle.rules.specs.Refusals.{_when_, _orElse_, first, done}
 use Rattle.rules.specs.Numbers.{number, part}
 use Rattle.rules.specs.Pile.{sameOpening}
@@ -25,14 +25,14 @@ ofCopy (suc answer) = 20 + suc answer
 unfoldable pub sameBook : List ℕ → List ℕ → Bool
 sameBook own copy =
     eqb (desks own) (desks copy)
-    && eqb (piles own) (piles copy)
-    && every (piles own) (λ k. eqb (pileNumber own k) (pileNumber copy k) && sameOpening (desks own) (pileOf own k) (pileOf copy k))
+    and eqb (piles own) (piles copy)
+    and every (piles own) (λ k. eqb (pileNumber own k) (pileNumber copy k) and sameOpening (desks own) (pileOf own k) (pileOf copy k))
 
 -- "by pile, then by desk": 31, and at the taker's own desk d 32
 unfoldable pub rowAnswer : ℕ → ℕ → List ℕ → List ℕ → ℕ
 rowAnswer d i own copy =
     31 when split (places own) (numbersOf own) (numbersOf copy)
-    orElse 32 when (eqb i d && later (places own) (numbersOf copy) (numbersOf own))
+    orElse 32 when (eqb i d and later (places own) (numbersOf copy) (numbersOf own))
 
 unfoldable pub takeAnswer : ℕ → List ℕ → List ℕ → ℕ
 takeAnswer d own copy =

@@ -1,0 +1,77 @@
+-- Lists made of m pieces one after the other, and taken apart again: head, contents, bodies, rows and numbers are all such pieces.
+-- Assumes nothing.
+use Prim.Native.Nat.{ℕ, zero, suc, _+_, _*_, _-_, _≤_, _<_}
+use native.Mathlib.Nat.{le-refl, le-step, not-suc-le-zero, le-of-suc-le-suc, eq-or-lt-of-le, zero-add, add-zero, zero-mul, suc-mul, suc-add, add-suc, add-assoc, mul-le-mul-right}
+use native.Mathlib.Omega.{arith}
+use mathlib.Core.Path.{_≡_, refl, ap, ap₂, sym, _∙_}
+use mathlib.Core.Logic.{⊎-elim}
+use mathlib.Core.List.{List, [], _∷_, _++_, append-assoc, append-nil}
+use lib.ListN.{length, getD, take, drop, length-append, length-take, length-drop, List·getD-append}
+use lib.Seq.{take-add, drop-drop, getD-append-add, getD-take, getD-drop, take-suc}
+use Rattle.rules.specs.Loops.{flat, list}
+use Rattle.rules.specs.Numbers.{part}
+
+module _ {A : Type 0} where
+  pub flat-cong : (m : ℕ) {f g : ℕ → List A} → ((k : ℕ) → k < m → f k ≡ g k) → flat m f ≡ flat m g
+  unfolding flat
+  flat-cong zero h = refl
+  flat-cong (suc m) h = ap₂ _++_ (flat-cong m (λ k l. h k (le-step l))) (h m (le-refl (suc m)))
+
+  pub length-flat : (m ℓ : ℕ) (f : ℕ → List A) → ((k : ℕ) → k < m → length (f k) ≡ ℓ) → length (flat m f) ≡ m * ℓ
+  unfolding flat
+  length-flat zero ℓ f h = sym (zero-mul ℓ)
+  length-flat (suc m) ℓ f h =
+      length-append (flat m f) (f m) ∙ ap₂ _+_ (length-flat m ℓ f (λ k l. h k (le-step l))) (h m (le-refl (suc m))) ∙ sym (suc-mul m ℓ)
+
+  -- what stands at place j of piece k
+  pub getD-flat : (m ℓ : ℕ) (f : ℕ → List A) (d : A) → ((k : ℕ) → k < m → length (f k) ≡ ℓ)
+      → (k j : ℕ) → k < m → j < ℓ → getD (flat m f) (k * ℓ + j) d ≡ getD (f k) j d
+  unfolding flat
+  getD-flat zero ℓ f d h k j k<m j<ℓ = absurd (not-suc-le-zero k<m)
+  getD-flat (suc m) ℓ f d h k j k<m j<ℓ =
+      let len : length (flat m f) ≡ m * ℓ = length-flat m ℓ f (λ k l. h k (le-step l)) in
+      ⊎-elim
+      (λ k≡m. ap (λ (n : ℕ). getD (flat m f ++ f m) n d) (ap (λ (n : ℕ). n * ℓ + j) k≡m ∙ ap (λ (n : ℕ). n + j) (sym len))
+      ∙ getD-append-add (flat m f) (f m) j d ∙ ap (λ (n : ℕ). getD (f n) j d) (sym k≡m))
+      (λ k<m. List·getD-append (flat m f) (f m) d (k * ℓ + j) (omega (arith, mul-le-mul-right ℓ k<m, suc-mul k ℓ))
+      ∙ getD-flat m ℓ f d (λ k l. h k (le-step l)) k j k<m j<ℓ)
+      (eq-or-lt-of-le (le-of-suc-le-suc k<m))
+
+  -- two parts that meet are one
+  pub part-add : (at n m : ℕ) (l : List A) → part at (n + m) l ≡ part at n l ++ part (at + n) m l
+  part-add at n m l = take-add n m (drop at l) ∙ ap (λ (r : List A). take n (drop at l) ++ take m r) (drop-drop n at l)
+
+  -- the pieces of a part of a list make it up
+  pub flat-parts : (m ℓ at : ℕ) (l : List A) → flat m (λ k. part (at + k * ℓ) ℓ l) ≡ part at (m * ℓ) l
+  unfolding flat
+  flat-parts zero ℓ at l = sym (ap (λ (n : ℕ). take n (drop at l)) (zero-mul ℓ))
+  flat-parts (suc m) ℓ at l =
+      ap (λ (r : List A). r ++ part (at + m * ℓ) ℓ l) (flat-parts m ℓ at l)
+      ∙ sym (part-add at (m * ℓ) ℓ l)
+      ∙ ap (λ (n : ℕ). part at n l) (sym (suc-mul m ℓ))
+
+  pub length-list : (m : ℕ) (f : ℕ → A) → length (list m f) ≡ m
+  unfolding list
+  length-list m f = length-flat m 1 (λ k. f k ∷ []) (λ k l. refl) ∙ omega arith
+
+  pub getD-list : (m : ℕ) (f : ℕ → A) (d : A) (k : ℕ) → k < m → getD (list m f) k d ≡ f k
+  unfolding list
+  getD-list m f d k l =
+      ap (λ (n : ℕ). getD (flat m (λ k. f k ∷ [])) n d) (omega arith)
+      ∙ getD-flat m 1 (λ k. f k ∷ []) d (λ k l. refl) k 0 l (le-refl 1)
+
+  pub list-cong : (m : ℕ) {f g : ℕ → A} → ((k : ℕ) → k < m → f k ≡ g k) → list m f ≡ list m g
+  unfolding list
+  list-cong m h = flat-cong m (λ k l. ap {B = List A} (λ x. x ∷ []) (h k l))
+
+  pub flat-add : (m m′ : ℕ) (f : ℕ → List A) → flat (m + m′) f ≡ flat m f ++ flat m′ (λ k. f (m + k))
+  unfolding flat
+  flat-add m zero f = ap (λ (n : ℕ). flat n f) (add-zero m) ∙ sym (append-nil (flat m f))
+  flat-add m (suc m′) f =
+      ap (λ (n : ℕ). flat n f) (add-suc m m′)
+      ∙ ap (λ (r : List A). r ++ f (m + m′)) (flat-add m m′ f)
+      ∙ append-assoc (flat m f) (flat m′ (λ k. f (m + k))) (f (m + m′))
+
+  pub list-add : (m m′ : ℕ) (f : ℕ → A) → list (m + m′) f ≡ list m f ++ list m′ (λ k. f (m + k))
+  unfolding list
+  list-add m m′ f = flat-add m m′ (λ k. f k ∷ [])

@@ -1,0 +1,137 @@
+-- What a test over the numbers below n tells, what a refusal tells, and the other way round.
+-- Assumes nothing.
+use Prim.Native.Nat.{ℕ, zero, suc, _≤_, _<_}
+use native.Mathlib.Nat.{le-refl, le-step, not-suc-le-zero, le-of-suc-le-suc, eq-or-lt-of-le, suc-ne-zero}
+use mathlib.Core.Path.{_≡_, refl, ap, ap₂, sym, subst, _∙_}
+use mathlib.Core.Logic.{_⊎_, inl, inr, ⊎-elim, _≢_}
+use mathlib.Core.Bool.{Bool, true, false, cond, not, true≢false, false≢true}
+use lib.Dec.{eqb}
+use borrow.Author.Tests.{eq-eqb, ne-eqb, not-true, not-false}
+use Rattle.rules.specs.Loops.{_and_, _or_, every}
+use Rattle.rules.specs.Refusals.{_when_, _orElse_, first, done}
+
+-- a Bool is one or the other
+pub decided : (b : Bool) → (b ≡ true) ⊎ (b ≡ false)
+decided true = inl refl
+decided false = inr refl
+
+pub and-left : (a b : Bool) → a and b ≡ true → a ≡ true
+unfolding _and_
+and-left true b e = refl
+and-left false b e = e
+
+pub and-right : (a b : Bool) → a and b ≡ true → b ≡ true
+unfolding _and_
+and-right true b e = e
+and-right false b e = absurd (false≢true e)
+
+pub and-both : {a b : Bool} → a ≡ true → b ≡ true → a and b ≡ true
+unfolding _and_
+and-both p q = ap₂ _and_ p q
+
+pub and-true : (a : Bool) → a and true ≡ a
+unfolding _and_
+and-true true = refl
+and-true false = refl
+
+pub and-false : (a : Bool) → a and false ≡ false
+unfolding _and_
+and-false true = refl
+and-false false = refl
+
+pub and-swap : (a b c : Bool) → a and b and c ≡ b and a and c
+unfolding _and_
+and-swap true b c = refl
+and-swap false b c = sym (and-false b)
+
+pub and-comm : (a b : Bool) → a and b ≡ b and a
+unfolding _and_
+and-comm true b = sym (and-true b)
+and-comm false b = sym (and-false b)
+
+pub and-last : (a b c : Bool) → a and b and c ≡ c and a and b
+and-last a b c = ap (λ (x : Bool). a and x) (and-comm b c) ∙ and-swap a c b
+
+pub or-left : (a b : Bool) → a or b ≡ false → a ≡ false
+unfolding _or_
+or-left true b e = e
+or-left false b e = refl
+
+pub or-right : (a b : Bool) → a or b ≡ false → b ≡ false
+unfolding _or_
+or-right true b e = absurd (true≢false e)
+or-right false b e = e
+
+pub or-neither : {a b : Bool} → a ≡ false → b ≡ false → a or b ≡ false
+unfolding _or_
+or-neither p q = ap₂ _or_ p q
+
+-- every
+pub every-at : (n : ℕ) (t : ℕ → Bool) → every n t ≡ true → (k : ℕ) → k < n → t k ≡ true
+unfolding every _and_
+every-at zero t e k l = absurd (not-suc-le-zero l)
+every-at (suc n) t e k l =
+    ⊎-elim (λ q. ap t q ∙ and-right (every n t) (t n) e) (every-at n t (and-left (every n t) (t n) e) k)
+    (eq-or-lt-of-le (le-of-suc-le-suc l))
+
+pub every-all : (n : ℕ) {t : ℕ → Bool} → ((k : ℕ) → k < n → t k ≡ true) → every n t ≡ true
+unfolding every _and_
+every-all zero h = refl
+every-all (suc n) h = and-both (every-all n (λ k l. h k (le-step l))) (h n (le-refl (suc n)))
+
+pub every-cong : (n : ℕ) {t u : ℕ → Bool} → ((k : ℕ) → k < n → t k ≡ u k) → every n t ≡ every n u
+unfolding every _and_
+every-cong zero h = refl
+every-cong (suc n) h = ap₂ _and_ (every-cong n (λ k l. h k (le-step l))) (h n (le-refl (suc n)))
+
+-- where it does not hold at every number below n, there is one at which it fails
+pub every-fails : (n : ℕ) (t : ℕ → Bool) → every n t ≡ false → (k : ℕ) × (k < n) × (t k ≡ false)
+unfolding every _and_
+every-fails zero t e = absurd (true≢false e)
+every-fails (suc n) t e = ⊎-elim here (λ f. below (every-fails n t f)) (decided (every n t))
+  where
+    here : every n t ≡ true → (k : ℕ) × (k < suc n) × (t k ≡ false)
+    here h = (n, le-refl (suc n), sym (ap (λ (b : Bool). b and t n) h) ∙ e)
+
+    below : (k : ℕ) × (k < n) × (t k ≡ false) → (k : ℕ) × (k < suc n) × (t k ≡ false)
+    below w = (w .0, le-step (w .1), w .2)
+
+-- a line of the table that is not met, and the lines after it
+pub when-done : (number : ℕ) (c : Bool) → suc number when c ≡ 0 → c ≡ false
+unfolding _when_
+when-done number true e = absurd (suc-ne-zero number e)
+when-done number false e = refl
+
+pub when-not-done : (number : ℕ) (c : Bool) → suc number when not c ≡ 0 → c ≡ true
+when-not-done number c e = not-false c (when-done number (not c) e)
+
+pub orElse-first : (a b : ℕ) → a orElse b ≡ 0 → a ≡ 0
+unfolding _orElse_
+orElse-first zero b e = refl
+orElse-first (suc a) b e = e
+
+pub orElse-rest : (a b : ℕ) → a orElse b ≡ 0 → b ≡ 0
+unfolding _orElse_
+orElse-rest zero b e = e
+orElse-rest (suc a) b e = absurd (suc-ne-zero a e)
+
+pub first-at : (n : ℕ) (f : ℕ → ℕ) → first n f ≡ 0 → (k : ℕ) → k < n → f k ≡ 0
+unfolding first
+first-at zero f e k l = absurd (not-suc-le-zero l)
+first-at (suc n) f e k l =
+    ⊎-elim (λ q. ap f q ∙ orElse-rest (first n f) (f n) e) (first-at n f (orElse-first (first n f) (f n) e) k)
+    (eq-or-lt-of-le (le-of-suc-le-suc l))
+
+pub first-none : (n : ℕ) {f : ℕ → ℕ} → ((k : ℕ) → k < n → f k ≡ 0) → first n f ≡ 0
+unfolding first _orElse_
+first-none zero h = refl
+first-none (suc n) h = ap₂ _orElse_ (first-none n (λ k l. h k (le-step l))) (h n (le-refl (suc n)))
+
+-- what a call leaves where it is answered 0, and where it is refused
+pub when-accepted : {A : Type 0} (answer : ℕ) (after before : A) → answer ≡ 0 → done answer after before ≡ after
+unfolding done
+when-accepted answer after before e = ap (λ (b : Bool). cond b after before) (eq-eqb answer 0 e)
+
+pub when-refused : {A : Type 0} (answer : ℕ) (after before : A) → answer ≢ 0 → done answer after before ≡ before
+unfolding done
+when-refused answer after before h = ap (λ (b : Bool). cond b after before) (ne-eqb answer 0 h)
