@@ -10,7 +10,7 @@ use lib.Dec.{lit<}
 use lib.Seq.{getD-append-add, getD-take, getD-drop, drop-cons, take-nil}
 use Rattle.rules.specs.Loops.{flat, list}
 use Rattle.rules.specs.Numbers.{number, bytes, encode, part}
-use Rattle.rules.proofs.Flat.{flat-cong, flat-parts}
+use Rattle.rules.proofs.Flat.{flat-cong, flat-parts, getD-flat}
 
 -- a list of bytes; past its end the default 0 is read
 abbrev pub Octets : List ℕ → Type 0
@@ -45,6 +45,12 @@ number-append w a b k =
 
 pub number-front : (w : ℕ) (a b : List ℕ) (k : ℕ) → k + w ≤ length a → number w (a ++ b) k ≡ number w a k
 number-front w a b k l = number-cong w (a ++ b) a k k (λ j j<w. List·getD-append a b 0 (k + j) (omega arith))
+
+pub number-flat : (w m ℓ : ℕ) (f : ℕ → List ℕ) → ((k : ℕ) → k < m → length (f k) ≡ ℓ)
+    → (k c : ℕ) → k < m → c + w ≤ ℓ → number w (flat m f) (k * ℓ + c) ≡ number w (f k) c
+number-flat w m ℓ f h k c k<m l =
+    number-cong w (flat m f) (f k) (k * ℓ + c) c (λ j j<w.
+    ap (λ (n : ℕ). getD (flat m f) n 0) (omega arith) ∙ getD-flat m ℓ f 0 h k (c + j) k<m (omega arith))
 
 -- a number that was written is read again
 pub number-bytes : (w x : ℕ) → x < 256 ^ w → number w (bytes w x) 0 ≡ x

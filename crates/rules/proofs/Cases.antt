@@ -8,11 +8,11 @@ use Rattle.rules.specs.Refusals.{_when_, _orElse_, first, done, Reply, r
 use Rattle.rules.specs.Numbers.{number, bytes, encode}
 use Rattle.rules.specs.Pile.{Side, draw, tip, bothSides, credit, debit, rights, lawful, tonnage, openingLawful, talliesLawful, pileAnswer, sameOpening}
 use Rattle.rules.specs.Acts.{Kind, spend, give, Act, actRefusal}
-use Rattle.rules.specs.Layout.{rowLength, bodyLength, bodyAt, bookLength, cellAt, pileNumber, position, pileOf, rowOf, openingRow, deskRow, bodyBytes, entryBytes, bookBytes}
+use Rattle.rules.specs.Layout.{rowLength, bodyLength, bodyAt, bookLength, cellAt, pileNumber, position, pileOf, rowOf, bodyRow, bodyBytes, entryBytes, bookBytes}
 use Rattle.rules.specs.Rows.{atLeast, alike, later, split, isRowLength, laterRow}
 use Rattle.rules.specs.Opening.{rising, given, givenPile, openingAnswer, opened}
 use Rattle.rules.specs.Book.{headRight, contentsRight, bookAnswer, place, absent, fetchAnswer, tonnageReply, deskAnswer, rightsReply, actAnswer, tallyAt, afterAct}
-use Rattle.rules.specs.Take.{rowPart, sameBook, rowAnswer, takeAnswer, taken, afterTake}
+use Rattle.rules.specs.Take.{rowPart, sameBook, rowAnswer, takeAnswer, takenRow, taken, afterTake}
 
 -- the worked book F: 3 desks, pile 7, floor 10, top 110, draw shares 0, 0, 0, tip shares 40, 30, 30
 F : List ℕ
@@ -114,5 +114,5 @@ table =
     ∷ []
 
 pub cases-hold : AllHold table
-unfolding F G AllHold shown on7 answers enter table _and_ _or_ sum every some index flat list _when_ _orElse_ first done reply number bytes encode bothSides credit debit rights lawful tonnage openingLawful talliesLawful pileAnswer sameOpening actRefusal rowLength bodyLength bodyAt bookLength cellAt pileNumber position pileOf rowOf openingRow deskRow bodyBytes entryBytes bookBytes atLeast alike later split isRowLength laterRow rising given givenPile openingAnswer opened headRight contentsRight bookAnswer place absent fetchAnswer tonnageReply deskAnswer rightsReply actAnswer tallyAt afterAct rowPart sameBook rowAnswer takeAnswer taken afterTake
+unfolding F G AllHold shown on7 answers enter table _and_ _or_ sum every some index flat list _when_ _orElse_ first done reply number bytes encode bothSides credit debit rights lawful tonnage openingLawful talliesLawful pileAnswer sameOpening actRefusal rowLength bodyLength bodyAt bookLength cellAt pileNumber position pileOf rowOf bodyRow bodyBytes entryBytes bookBytes atLeast alike later split isRowLength laterRow rising given givenPile openingAnswer opened headRight contentsRight bookAnswer place absent fetchAnswer tonnageReply deskAnswer rightsReply actAnswer tallyAt afterAct rowPart sameBook rowAnswer takeAnswer takenRow taken afterTake
 cases-hold = (refl, (refl, (refl, (refl, (refl, (refl, (refl, (refl, (refl, (refl, (refl, (refl, (refl, tt)))))))))))))

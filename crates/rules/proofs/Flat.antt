@@ -1,13 +1,13 @@
 -- Lists made of m pieces one after the other, and taken apart again: head, contents, bodies, rows and numbers are all such pieces.
 -- Assumes nothing.
 use Prim.Native.Nat.{ℕ, zero, suc, _+_, _*_, _-_, _≤_, _<_}
-use native.Mathlib.Nat.{le-refl, le-step, not-suc-le-zero, le-of-suc-le-suc, eq-or-lt-of-le, zero-add, add-zero, zero-mul, suc-mul, suc-add, add-suc, add-assoc, mul-le-mul-right}
+use native.Mathlib.Nat.{le-refl, le-of-eq, le-step, not-suc-le-zero, le-of-suc-le-suc, eq-or-lt-of-le, zero-add, add-zero, zero-mul, suc-mul, suc-add, add-suc, add-assoc, mul-le-mul-right}
 use native.Mathlib.Omega.{arith}
-use mathlib.Core.Path.{_≡_, refl, ap, ap₂, sym, _∙_}
+use mathlib.Core.Path.{_≡_, refl, ap, ap₂, sym, subst⁻¹, _∙_}
 use mathlib.Core.Logic.{⊎-elim}
 use mathlib.Core.List.{List, [], _∷_, _++_, append-assoc, append-nil}
 use lib.ListN.{length, getD, take, drop, length-append, length-take, length-drop, List·getD-append}
-use lib.Seq.{take-add, drop-drop, getD-append-add, getD-take, getD-drop, take-suc}
+use lib.Seq.{take-all, take-add, drop-drop, take-append-le, drop-append-le, drop-append-add, getD-append-add}
 use Rattle.rules.specs.Loops.{flat, list}
 use Rattle.rules.specs.Numbers.{part}
 
@@ -40,6 +40,28 @@ module _ {A : Type 0} where
   -- two parts that meet are one
   pub part-add : (at n m : ℕ) (l : List A) → part at (n + m) l ≡ part at n l ++ part (at + n) m l
   part-add at n m l = take-add n m (drop at l) ∙ ap (λ (r : List A). take n (drop at l) ++ take m r) (drop-drop n at l)
+
+  -- a part in the first of two lists, in the second, and that is a whole piece
+  pub part-front : (at m : ℕ) (a b : List A) → at + m ≤ length a → part at m (a ++ b) ≡ part at m a
+  part-front at m a b l =
+      ap (take m) (drop-append-le at a b (omega arith))
+      ∙ take-append-le m (drop at a) b (subst⁻¹ (λ (n : ℕ). m ≤ n) (length-drop at a) (omega arith))
+
+  pub part-behind : (at m : ℕ) (a b : List A) → part (length a + at) m (a ++ b) ≡ part at m b
+  part-behind at m a b = ap (take m) (drop-append-add a b at)
+
+  pub part-flat : (m ℓ : ℕ) (f : ℕ → List A) → ((k : ℕ) → k < m → length (f k) ≡ ℓ)
+      → (k : ℕ) → k < m → part (k * ℓ) ℓ (flat m f) ≡ f k
+  unfolding flat
+  part-flat zero ℓ f h k k<m = absurd (not-suc-le-zero k<m)
+  part-flat (suc m) ℓ f h k k<m =
+      let len : length (flat m f) ≡ m * ℓ = length-flat m ℓ f (λ k l. h k (le-step l)) in
+      ⊎-elim
+      (λ k≡m. ap (λ (n : ℕ). part n ℓ (flat m f ++ f m)) (ap (λ (n : ℕ). n * ℓ) k≡m ∙ sym len ∙ sym (add-zero (length (flat m f))))
+      ∙ part-behind 0 ℓ (flat m f) (f m) ∙ take-all ℓ (f m) (le-of-eq (h m (le-refl (suc m)))) ∙ ap f (sym k≡m))
+      (λ k<m. part-front (k * ℓ) ℓ (flat m f) (f m) (omega (arith, mul-le-mul-right ℓ k<m, suc-mul k ℓ))
+      ∙ part-flat m ℓ f (λ k l. h k (le-step l)) k k<m)
+      (eq-or-lt-of-le (le-of-suc-le-suc k<m))
 
   -- the pieces of a part of a list make it up
   pub flat-parts : (m ℓ at : ℕ) (l : List A) → flat m (λ k. part (at + k * ℓ) ℓ l) ≡ part at (m * ℓ) l

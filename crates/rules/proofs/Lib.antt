@@ -7,3 +7,7 @@ pub mod Acted
 pub mod Order
 pub mod Flat
 pub mod Bytes
+pub mod Body
+pub mod Written
+pub mod Readable
+pub mod Refused

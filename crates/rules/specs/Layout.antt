@@ -75,14 +75,12 @@ pileOf b k = bodyView (desks b) b (bodyAt (desks b) (piles b) k)
 unfoldable pub rowOf : ℕ → ℕ → ℕ → (Side → ℕ → ℕ) → List ℕ
 rowOf n a b f = a ∷ b ∷ (list n (f draw) ++ list n (f tip))
 
-unfoldable pub openingRow : ℕ → Pile → List ℕ
-openingRow n p = rowOf n (p .floor) (p .top) (p .share)
-
-unfoldable pub deskRow : ℕ → Pile → ℕ → List ℕ
-deskRow n p i = rowOf n (p .earned draw i) (p .earned tip i) (λ s. p .give s i)
+unfoldable pub bodyRow : ℕ → Pile → ℕ → List ℕ
+bodyRow n p zero = rowOf n (p .floor) (p .top) (p .share)
+bodyRow n p (suc i) = rowOf n (p .earned draw i) (p .earned tip i) (λ s. p .give s i)
 
 unfoldable pub bodyBytes : ℕ → Pile → List ℕ
-bodyBytes n p = encode (openingRow n p) ++ flat n (λ i. encode (deskRow n p i))
+bodyBytes n p = flat (suc n) (λ row. encode (bodyRow n p row))
 
 -- a book from its desks, its piles, their numbers, and their bodies: version 1, n, p, 0, the contents, the bodies without gaps
 unfoldable pub entryBytes : ℕ → ℕ → (ℕ → ℕ) → ℕ → List ℕ

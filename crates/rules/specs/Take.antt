@@ -43,10 +43,13 @@ takeAnswer d own copy =
     orElse first (piles own) (λ k. first (desks own) (λ i. rowAnswer d i (rowPart own k (suc i)) (rowPart copy k (suc i))))
 
 -- the taken book: for each pile and desk the later row, or the common row; all else is the taker's own
+unfoldable pub takenRow : List ℕ → List ℕ → ℕ → ℕ → List ℕ
+takenRow own copy k zero = rowPart own k 0
+takenRow own copy k (suc i) = laterRow (rowPart own k (suc i)) (rowPart copy k (suc i))
+
 unfoldable pub taken : List ℕ → List ℕ → List ℕ
 taken own copy =
-    part 0 (bodyAt (desks own) (piles own) 0) own
-    ++ flat (piles own) (λ k. rowPart own k 0 ++ flat (desks own) (λ i. laterRow (rowPart own k (suc i)) (rowPart copy k (suc i))))
+    part 0 (bodyAt (desks own) (piles own) 0) own ++ flat (piles own) (λ k. flat (suc (desks own)) (takenRow own copy k))
 
 unfoldable pub afterTake : ℕ → List ℕ → List ℕ → List ℕ
 afterTake d own copy = done (takeAnswer d own copy) (taken own copy) own

@@ -1,0 +1,121 @@
+-- Reading a book that was written, and writing a book that was read: the book is its head, its contents and its bodies, one after the other.
+-- Assumes nothing.
+use Prim.Native.Nat.{ℕ, zero, suc, _+_, _*_, _^_, _≤_, _<_}
+use native.Mathlib.Nat.{le-refl, le-of-eq, mul-le-mul-right, suc-mul, not-suc-le-zero, le-of-suc-le-suc}
+use native.Mathlib.Omega.{arith}
+use mathlib.Core.Path.{_≡_, refl, ap, ap₂, sym, _∙_}
+use mathlib.Core.List.{List, [], _∷_, _++_, append-assoc}
+use lib.ListN.{length, getD, take, drop, length-append}
+use lib.Seq.{take-all}
+use lib.Dec.{lit≤}
+use Rattle.rules.specs.Loops.{flat}
+use Rattle.rules.specs.Numbers.{number, bytes, part}
+use Rattle.rules.specs.Pile.{Pile}
+use Rattle.rules.specs.Layout.{bodyLength, bodyAt, bookLength, bodyView, desks, piles, pileNumber, position, pileOf, bodyBytes, entryBytes, bookBytes}
+use Rattle.rules.proofs.Flat.{flat-cong, length-flat, flat-parts, part-add, part-behind, part-flat}
+use Rattle.rules.proofs.Bytes.{Octets, length-bytes, number-front, number-append, number-flat, number-bytes, bytes-number}
+use Rattle.rules.proofs.Body.{Agree, Fits, Fits4, length-body, read-body, write-body}
+
+module _ (n p : ℕ) (numbers : ℕ → ℕ) (pile : ℕ → Pile) where
+  length-entry : (k : ℕ) → length (entryBytes n p numbers k) ≡ 6
+  unfolding entryBytes
+  length-entry k =
+      length-append (bytes 2 (numbers k)) (bytes 4 (bodyAt n p k))
+      ∙ ap₂ _+_ (length-bytes 2 (numbers k)) (length-bytes 4 (bodyAt n p k))
+
+  length-contents : length (flat p (entryBytes n p numbers)) ≡ p * 6
+  length-contents = length-flat p 6 (entryBytes n p numbers) (λ k _. length-entry k)
+
+  pub length-book : length (bookBytes n p numbers pile) ≡ bookLength n p
+  unfolding bookBytes bookLength bodyAt
+  length-book =
+      omega (
+        arith,
+        length-append (flat p (entryBytes n p numbers)) (flat p (λ k. bodyBytes n (pile k))),
+        length-contents,
+        length-flat p (bodyLength n) (λ k. bodyBytes n (pile k)) (λ k _. length-body n (pile k)),
+      )
+
+  -- where body k stands
+  body-part : (k : ℕ) → k < p → part (bodyAt n p k) (bodyLength n) (bookBytes n p numbers pile) ≡ bodyBytes n (pile k)
+  unfolding bookBytes bodyAt
+  body-part k l =
+      let contents = flat p (entryBytes n p numbers) in
+      let bodies = flat p (λ k. bodyBytes n (pile k)) in
+      let at : 4 + p * 6 + k * bodyLength n ≡ 4 + (length contents + k * bodyLength n) = omega (arith, length-contents) in
+      ap (λ (m : ℕ). part m (bodyLength n) (bookBytes n p numbers pile)) at
+      ∙ part-behind (length contents + k * bodyLength n) (bodyLength n) (1 ∷ n ∷ p ∷ 0 ∷ []) (contents ++ bodies)
+      ∙ part-behind (k * bodyLength n) (bodyLength n) contents bodies
+      ∙ part-flat p (bodyLength n) (λ k. bodyBytes n (pile k)) (λ k _. length-body n (pile k)) k l
+
+  -- a number of entry k
+  entry-number : (w k c : ℕ) → k < p → c + w ≤ 6 → number w (bookBytes n p numbers pile) (4 + (k * 6 + c)) ≡ number w (entryBytes n p numbers k) c
+  unfolding bookBytes
+  entry-number w k c l fits =
+      let contents = flat p (entryBytes n p numbers) in
+      let bodies = flat p (λ k. bodyBytes n (pile k)) in
+      number-append w (1 ∷ n ∷ p ∷ 0 ∷ []) (contents ++ bodies) (k * 6 + c)
+      ∙ number-front w contents bodies (k * 6 + c) (omega (arith, length-contents))
+      ∙ number-flat w p 6 (entryBytes n p numbers) (λ k _. length-entry k) k c l fits
+
+  pub read-number : (k : ℕ) → k < p → numbers k < 256 ^ 2 → pileNumber (bookBytes n p numbers pile) k ≡ numbers k
+  unfolding pileNumber entryBytes
+  read-number k l fits =
+      ap (number 2 (bookBytes n p numbers pile)) (omega arith)
+      ∙ entry-number 2 k 0 l (lit≤ tt)
+      ∙ number-front 2 (bytes 2 (numbers k)) (bytes 4 (bodyAt n p k)) 0 (le-of-eq (sym (length-bytes 2 (numbers k))))
+      ∙ number-bytes 2 (numbers k) fits
+
+  pub read-position : (k : ℕ) → k < p → Fits4 (bookLength n p) → position (bookBytes n p numbers pile) k ≡ bodyAt n p k
+  unfolding position entryBytes bookLength bodyAt
+  read-position k l fits =
+      ap (number 4 (bookBytes n p numbers pile)) (omega arith)
+      ∙ entry-number 4 k 2 l (lit≤ tt)
+      ∙ ap (number 4 (entryBytes n p numbers k)) (omega (arith, length-bytes 2 (numbers k)))
+      ∙ number-append 4 (bytes 2 (numbers k)) (bytes 4 (bodyAt n p k)) 0
+      ∙ number-bytes 4 (bodyAt n p k) (omega (arith, mul-le-mul-right (bodyLength n) l, suc-mul k (bodyLength n)))
+
+  pub read-pile : (k : ℕ) → k < p → Fits n (pile k) → Agree n (pileOf (bookBytes n p numbers pile) k) (pile k)
+  unfolding pileOf bookBytes
+  read-pile k l fits = read-body n (pile k) fits (bookBytes n p numbers pile) (bodyAt n p k) (body-part k l)
+
+head-four : (b : List ℕ) → 4 ≤ length b → take 4 b ≡ getD b 0 0 ∷ getD b 1 0 ∷ getD b 2 0 ∷ getD b 3 0 ∷ []
+head-four [] l = absurd (omega arith)
+head-four (v ∷ []) l = absurd (omega arith)
+head-four (v ∷ n ∷ []) l = absurd (omega arith)
+head-four (v ∷ n ∷ p ∷ []) l = absurd (omega arith)
+head-four (v ∷ n ∷ p ∷ z ∷ b) l = refl
+
+-- a book whose length, head and positions are right is what writing its parts gives
+module _ (b : List ℕ) (o : Octets b) (long : 4 ≤ length b) (version : getD b 0 0 ≡ 1) (last : getD b 3 0 ≡ 0)
+    (len : length b ≡ bookLength (desks b) (piles b))
+    (positions : (k : ℕ) → k < piles b → position b k ≡ bodyAt (desks b) (piles b) k) where
+  write-head : 1 ∷ desks b ∷ piles b ∷ 0 ∷ [] ≡ part 0 4 b
+  write-head = ap₂ (λ (v z : ℕ). v ∷ desks b ∷ piles b ∷ z ∷ []) (sym version) (sym last) ∙ sym (head-four b long)
+
+  write-entry : (k : ℕ) → k < piles b → entryBytes (desks b) (piles b) (pileNumber b) k ≡ part (4 + k * 6) 6 b
+  unfolding entryBytes pileNumber position bookLength bodyAt
+  write-entry k l =
+      let behind : 6 + k * 6 ≡ 4 + k * 6 + 2 = omega arith in
+      ap₂ _++_ (bytes-number 2 b (4 + k * 6) o (omega arith))
+      (ap (bytes 4) (sym (positions k l)) ∙ bytes-number 4 b (6 + k * 6) o (omega arith)
+      ∙ ap (λ (at : ℕ). part at 4 b) behind)
+      ∙ sym (part-add (4 + k * 6) 2 4 b)
+
+  write-pile : (k : ℕ) → k < piles b
+      → bodyBytes (desks b) (pileOf b k) ≡ part (4 + piles b * 6 + k * bodyLength (desks b)) (bodyLength (desks b)) b
+  unfolding pileOf bookLength bodyAt
+  write-pile k l =
+      write-body (desks b) b (bodyAt (desks b) (piles b) k) o
+      (omega (arith, mul-le-mul-right (bodyLength (desks b)) l, suc-mul k (bodyLength (desks b))))
+
+  pub write-book : bookBytes (desks b) (piles b) (pileNumber b) (pileOf b) ≡ b
+  unfolding bookBytes bookLength bodyAt
+  write-book =
+      let contents : flat (piles b) (entryBytes (desks b) (piles b) (pileNumber b)) ≡ part 4 (piles b * 6) b
+      = flat-cong (piles b) write-entry ∙ flat-parts (piles b) 6 4 b in
+      let bodies : flat (piles b) (λ k. bodyBytes (desks b) (pileOf b k)) ≡ part (4 + piles b * 6) (piles b * bodyLength (desks b)) b
+      = flat-cong (piles b) write-pile ∙ flat-parts (piles b) (bodyLength (desks b)) (4 + piles b * 6) b in
+      ap₂ _++_ write-head (ap₂ _++_ contents bodies ∙ sym (part-add 4 (piles b * 6) (piles b * bodyLength (desks b)) b))
+      ∙ sym (part-add 0 4 (piles b * 6 + piles b * bodyLength (desks b)) b)
+      ∙ take-all (4 + (piles b * 6 + piles b * bodyLength (desks b))) b (omega arith)
