@@ -3,7 +3,7 @@
 use Prim.Native.Nat.{ℕ, zero, suc}
 use mathlib.Core.Path.{_≡_, refl}
 use mathlib.Core.List.{List, [], _∷_, _++_}
-use Rattle.rules.specs.Loops.{_and_, _or_, sum, every, some, index, flat, list}
+use Rattle.rules.specs.Loops.{_and_, _or_, between, sum, every, some, index, flat, list}
 use Rattle.rules.specs.Refusals.{_when_, _orElse_, first, done, Reply, refused, value, reply}
 use Rattle.rules.specs.Numbers.{number, bytes, encode}
 use Rattle.rules.specs.Pile.{Side, draw, tip, bothSides, credit, debit, rights, lawful, tonnage, openingLawful, talliesLawful, pileAnswer, sameOpening}
@@ -104,6 +104,8 @@ table =
     }
     -- h: desk 0 takes F into G: G unaltered
     ∷ record { got = takeAnswer 0 G F ∷ afterTake 0 G F; said = 0 ∷ G }
+    -- the copy of one's own book, and so a copy taken again, adds nothing
+    ∷ record { got = takeAnswer 0 G G ∷ afterTake 0 G G; said = 0 ∷ G }
     -- i: desk 2 takes G into F: 32
     ∷ record { got = takeAnswer 2 F G ∷ afterTake 2 F G; said = 32 ∷ F }
     -- j: desk 1 takes "F, desk 0 tips 30" into "F, desk 0 tips 10, gives tip 5 to desk 1": 31
@@ -114,5 +116,5 @@ table =
     ∷ []
 
 pub cases-hold : AllHold table
-unfolding F G AllHold shown on7 answers enter table _and_ _or_ sum every some index flat list _when_ _orElse_ first done reply number bytes encode bothSides credit debit rights lawful tonnage openingLawful talliesLawful pileAnswer sameOpening actRefusal rowLength bodyLength bodyAt bookLength cellAt pileNumber position pileOf rowOf bodyRow bodyBytes entryBytes bookBytes atLeast alike later split isRowLength laterRow rising given givenPile openingAnswer opened headRight contentsRight bookAnswer place absent fetchAnswer tonnageReply deskAnswer rightsReply actAnswer tallyAt afterAct rowPart sameBook rowAnswer takeAnswer takenRow taken afterTake
-cases-hold = (refl, (refl, (refl, (refl, (refl, (refl, (refl, (refl, (refl, (refl, (refl, (refl, (refl, tt)))))))))))))
+unfolding F G AllHold shown on7 answers enter table _and_ _or_ between sum every some index flat list _when_ _orElse_ first done reply number bytes encode bothSides credit debit rights lawful tonnage openingLawful talliesLawful pileAnswer sameOpening actRefusal rowLength bodyLength bodyAt bookLength cellAt pileNumber position pileOf rowOf bodyRow bodyBytes entryBytes bookBytes atLeast alike later split isRowLength laterRow rising given givenPile openingAnswer opened headRight contentsRight bookAnswer place absent fetchAnswer tonnageReply deskAnswer rightsReply actAnswer tallyAt afterAct rowPart sameBook rowAnswer takeAnswer takenRow taken afterTake
+cases-hold = (refl, (refl, (refl, (refl, (refl, (refl, (refl, (refl, (refl, (refl, (refl, (refl, (refl, (refl, tt))))))))))))))

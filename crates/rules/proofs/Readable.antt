@@ -9,11 +9,11 @@ use mathlib.Core.List.{List}
 use lib.ListN.{length, getD}
 use lib.Dec.{leb, ltb, eqb}
 use borrow.Author.Tests.{leb-true, ltb-true, ltb-false, eqb-true, le-leb, lt-ltb, le-ltb, eq-eqb}
-use Rattle.rules.specs.Loops.{_and_, every}
+use Rattle.rules.specs.Loops.{_and_, between, every}
 use Rattle.rules.specs.Refusals.{_when_, _orElse_, first}
 use Rattle.rules.specs.Pile.{pileAnswer}
-use Rattle.rules.specs.Layout.{bodyLength, bodyAt, bookLength, desks, piles, pileNumber, position, pileOf, bookBytes}
-use Rattle.rules.specs.Opening.{between, deskLimit, pileLimit, pileNumberLimit, previous, rising}
+use Rattle.rules.specs.Layout.{deskLimit, pileLimit, bodyLength, bodyAt, bookLength, desks, piles, pileNumber, position, pileOf, bookBytes}
+use Rattle.rules.specs.Opening.{rising}
 use Rattle.rules.specs.Book.{headRight, contentsRight, bookAnswer}
 use Rattle.rules.proofs.Tests.{and-left, and-right, and-both, every-at, every-all, when-done, when-not-done, orElse-first, orElse-rest, first-at, first-none}
 use Rattle.rules.proofs.Bytes.{Octets}
@@ -33,7 +33,7 @@ pub record BookFacts (b : List ℕ) : Type 0 where
   pub bodies : (k : ℕ) → k < piles b → pileAnswer (desks b) (pileOf b k) ≡ 0
 
 pub book-facts : (b : List ℕ) → bookAnswer b ≡ 0 → BookFacts b
-unfolding bookAnswer headRight contentsRight
+unfolding bookAnswer headRight contentsRight between
 book-facts b e =
     let head : headRight b ≡ true = when-not-done _ _ (orElse-first _ _ (orElse-rest _ _ e)) in
     let rest = orElse-rest _ _ (orElse-rest _ _ e) in
@@ -54,7 +54,7 @@ book-facts b e =
     }
 
 pub book-passes : (b : List ℕ) → BookFacts b → bookAnswer b ≡ 0
-unfolding bookAnswer headRight contentsRight _when_ _orElse_
+unfolding bookAnswer headRight contentsRight between _when_ _orElse_
 book-passes b f =
     rw (
       le-ltb _ _ (f .long),

@@ -7,13 +7,13 @@ use mathlib.Core.List.{List, [], _++_}
 use lib.ListN.{length, getD, drop}
 use lib.Dec.{ltb, eqb}
 use lib.Seq.{sets}
-use Rattle.rules.specs.Loops.{_and_, every, index, list}
+use Rattle.rules.specs.Loops.{_and_, between, every, index, list}
 use Rattle.rules.specs.Refusals.{_when_, _orElse_, first, done, Reply, reply}
 use Rattle.rules.specs.Numbers.{bytes, part}
 use Rattle.rules.specs.Pile.{Side, Pile, pileAnswer, rights, tonnage}
 use Rattle.rules.specs.Acts.{Act, tally, actRefusal}
-use Rattle.rules.specs.Layout.{bodyLength, bodyAt, bookLength, cellAt, actColumn, desks, piles, pileNumber, position, pileOf}
-use Rattle.rules.specs.Opening.{between, deskLimit, pileLimit, rising}
+use Rattle.rules.specs.Layout.{deskLimit, pileLimit, bodyLength, bodyAt, bookLength, cellAt, actColumn, desks, piles, pileNumber, position, pileOf}
+use Rattle.rules.specs.Opening.{rising}
 
 -- version 1, n, p, 0
 unfoldable pub headRight : List ℕ → Bool

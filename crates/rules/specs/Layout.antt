@@ -8,6 +8,16 @@ use Rattle.rules.specs.Numbers.{number, bytes, encode}
 use Rattle.rules.specs.Pile.{Side, draw, tip, other, Pile}
 use Rattle.rules.specs.Acts.{Kind, spend, give}
 
+-- a book has 1 to 8 desks and 1 to 32 piles, numbered 1 to 65,535
+abbrev pub deskLimit : ℕ
+deskLimit = 8
+
+abbrev pub pileLimit : ℕ
+pileLimit = 32
+
+abbrev pub pileNumberLimit : ℕ
+pileNumberLimit = 65535
+
 -- A body is n + 1 rows of 2(n + 1) numbers: row 0 is the opening, row i + 1 belongs to desk i.
 unfoldable pub rowLength : ℕ → ℕ
 rowLength n = 8 * (n + 1)

@@ -3,6 +3,7 @@
 use Prim.Native.Nat.{ℕ, zero, suc, _+_}
 use mathlib.Core.Bool.{Bool, true, false, cond, not}
 use mathlib.Core.List.{List, [], _∷_, _++_}
+use lib.Dec.{leb}
 
 infixr 40 _and_
 infixr 40 _or_
@@ -13,6 +14,9 @@ false and b = false
 unfoldable pub _or_ : Bool → Bool → Bool
 true or b = true
 false or b = b
+
+unfoldable pub between : ℕ → ℕ → ℕ → Bool
+between low high x = leb low x and leb x high
 
 -- f 0 + .. + f (n - 1)
 unfoldable pub sum : ℕ → (ℕ → ℕ) → ℕ

@@ -6,22 +6,10 @@ use mathlib.Core.List.{List}
 use lib.ListN.{length, getD}
 use lib.Dec.{leb, ltb, eqb}
 use lib.Seq.{sets}
-use Rattle.rules.specs.Loops.{_and_, every}
+use Rattle.rules.specs.Loops.{_and_, between, every}
 use Rattle.rules.specs.Refusals.{_when_, _orElse_, first, done}
 use Rattle.rules.specs.Pile.{Pile, openingLawful}
-use Rattle.rules.specs.Layout.{column, bookLength, bookBytes}
-
-abbrev pub between : ℕ → ℕ → ℕ → Bool
-between low high x = leb low x and leb x high
-
-abbrev pub deskLimit : ℕ
-deskLimit = 8
-
-abbrev pub pileLimit : ℕ
-pileLimit = 32
-
-abbrev pub pileNumberLimit : ℕ
-pileNumberLimit = 65535
+use Rattle.rules.specs.Layout.{deskLimit, pileLimit, pileNumberLimit, column, bookLength, bookBytes}
 
 -- pile numbers are 1 to 65,535, strictly rising: each is above the one before it, the first above 0
 abbrev pub previous : (ℕ → ℕ) → ℕ → ℕ
