@@ -126,14 +126,18 @@ module _ (n : ℕ) (p : Pile) (i t : ℕ) (i<n : i < n) where
       )
 
 -- a test that holds at a side and a desk
-same-is : (s s′ : Side) → sameSide s s′ ≡ true → s ≡ s′
+pub same-is : (s s′ : Side) → sameSide s s′ ≡ true → s ≡ s′
 same-is draw draw e = refl
 same-is draw tip e = absurd (false≢true e)
 same-is tip draw e = absurd (false≢true e)
 same-is tip tip e = refl
 
-here : (s s′ : Side) (k i : ℕ) → sameSide s s′ and eqb k i ≡ true → (s ≡ s′) × (k ≡ i)
+pub here : (s s′ : Side) (k i : ℕ) → sameSide s s′ and eqb k i ≡ true → (s ≡ s′) × (k ≡ i)
 here s s′ k i e = (same-is s s′ (and-left _ _ e), eqb-true k i (and-right _ _ e))
+
+pub there : (s s′ : Side) (k i l j : ℕ) → sameSide s s′ and eqb k i and eqb l j ≡ true → (s ≡ s′) × (k ≡ i) × (l ≡ j)
+there s s′ k i l j e =
+    (same-is s s′ (and-left _ _ e), eqb-true k i (and-left _ _ (and-right _ _ e)), eqb-true l j (and-right _ _ (and-right _ _ e)))
 
 module _ (n : ℕ) (p : Pile) (i : ℕ) (kind : Kind) (t : ℕ) (i<n : i < n) (f : PileFacts n p) (a : ActFacts n p i kind t) where
   -- what is spent or given is covered by the rights of that side
@@ -183,12 +187,8 @@ facts-acted n p i (give s j) t i<n f a =
       opening = record { floor-top = f .opening .floor-top; top-limit = f .opening .top-limit; shares = f .opening .shares };
       earned-limit = f .earned-limit;
       give-limit = λ s′ k m l l′. one-more (λ x. x ≤ tallyLimit) (sameSide s′ s and eqb k i and eqb m j) _ t
-          (λ e. let at = there s′ k m e in rw (at .0, at .1, at .2) (a .room)) (f .give-limit s′ k m l l′);
+          (λ e. let at = there s′ s k i m j e in rw (at .0, at .1, at .2) (a .room)) (f .give-limit s′ k m l l′);
       give-self = λ s′ k l. one-more (λ x. x ≡ 0) (sameSide s′ s and eqb k i and eqb k j) _ t
-          (λ e. let at = there s′ k k e in absurd (a .receives .1 (sym (at .2) ∙ at .1))) (f .give-self s′ k l);
+          (λ e. let at = there s′ s k i k j e in absurd (a .receives .1 (sym (at .2) ∙ at .1))) (f .give-self s′ k l);
       covered = covered-acted n p i (give s j) t i<n f a;
     }
-  where
-    there : (s′ : Side) (k m : ℕ) → sameSide s′ s and eqb k i and eqb m j ≡ true → (s′ ≡ s) × (k ≡ i) × (m ≡ j)
-    there s′ k m e =
-        (same-is s′ s (and-left _ _ e), eqb-true k i (and-left _ _ (and-right _ _ e)), eqb-true m j (and-right _ _ (and-right _ _ e)))

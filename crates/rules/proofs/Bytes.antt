@@ -1,7 +1,7 @@
 -- Reading a number that was written, and writing a number that was read.
 -- Assumes nothing.
 use Prim.Native.Nat.{ℕ, zero, suc, _+_, _*_, _/_, _%_, _^_, _≤_, _<_}
-use native.Mathlib.Nat.{zero-lt-suc, add-zero, add-suc, suc-add, suc-mul, not-suc-le-zero, le-of-suc-le-suc, suc-le-suc-iff, div-lt-iff-lt-mul, mod-add-div, pow-suc}
+use native.Mathlib.Nat.{zero-lt-suc, add-zero, add-suc, suc-add, suc-mul, not-suc-le-zero, le-of-suc-le-suc, suc-le-suc-iff, div-lt-iff-lt-mul, mod-add-div, mod-lt, pow-suc}
 use native.Mathlib.Omega.{arith}
 use mathlib.Core.Path.{_≡_, refl, ap, ap₂, sym, subst, _∙_}
 use mathlib.Core.List.{List, [], _∷_, _++_, append-assoc, append-nil}
@@ -15,6 +15,12 @@ use Rattle.rules.proofs.Flat.{flat-cong, flat-parts, getD-flat}
 -- a list of bytes; past its end the default 0 is read
 abbrev pub Octets : List ℕ → Type 0
 Octets b = (k : ℕ) → getD b k 0 < 256
+
+pub octets-bytes : (w x : ℕ) → Octets (bytes w x)
+unfolding bytes
+octets-bytes zero x k = lit< tt
+octets-bytes (suc w) x zero = mod-lt x (lit< tt)
+octets-bytes (suc w) x (suc k) = octets-bytes w (x / 256) k
 
 pub length-bytes : (w x : ℕ) → length (bytes w x) ≡ w
 unfolding bytes

@@ -11,3 +11,10 @@ pub mod Body
 pub mod Written
 pub mod Readable
 pub mod Refused
+pub mod Congruence
+pub mod Put
+pub mod Cells
+pub mod PutCell
+pub mod AfterAct
+pub mod LawfulBook
+pub mod Opened

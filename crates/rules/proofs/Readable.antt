@@ -17,6 +17,7 @@ use Rattle.rules.specs.Opening.{rising}
 use Rattle.rules.specs.Book.{headRight, contentsRight, bookAnswer}
 use Rattle.rules.proofs.Tests.{and-left, and-right, and-both, every-at, every-all, when-done, when-not-done, orElse-first, orElse-rest, first-at, first-none}
 use Rattle.rules.proofs.Bytes.{Octets}
+use Rattle.rules.proofs.Congruence.{agree-refl}
 use Rattle.rules.proofs.Written.{write-book}
 
 pub record BookFacts (b : List ℕ) : Type 0 where
@@ -68,12 +69,14 @@ book-passes b f =
 
 -- a readable book is what writing its parts gives
 pub rewritten : (b : List ℕ) → Octets b → bookAnswer b ≡ 0 → bookBytes (desks b) (piles b) (pileNumber b) (pileOf b) ≡ b
+unfolding pileOf
 rewritten b o e =
     let f = book-facts b e in
-    write-book b o (f .long) (f .version) (f .fourth) (f .sized) (f .placed)
+    write-book (desks b) (piles b) (pileNumber b) (pileOf b) b o (f .sized) (f .version) refl refl (f .fourth) (λ k l. refl)
+    (f .placed) (λ k l. agree-refl)
 
 -- lengths from 42 to 20,932
-lengths : (n p : ℕ) → 1 ≤ n → n ≤ deskLimit → 1 ≤ p → p ≤ pileLimit → (42 ≤ bookLength n p) × (bookLength n p ≤ 20932)
+pub lengths : (n p : ℕ) → 1 ≤ n → n ≤ deskLimit → 1 ≤ p → p ≤ pileLimit → (42 ≤ bookLength n p) × (bookLength n p ≤ 20932)
 unfolding bookLength bodyAt bodyLength
 lengths n p 1≤n n≤8 1≤p p≤32 =
     let low : 2 ≤ n + 1 = omega arith in

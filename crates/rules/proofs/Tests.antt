@@ -52,6 +52,11 @@ and-comm false b = sym (and-false b)
 pub and-last : (a b c : Bool) → a and b and c ≡ c and a and b
 and-last a b c = ap (λ (x : Bool). a and x) (and-comm b c) ∙ and-swap a c b
 
+pub and-fails : (a b : Bool) → a and b ≡ false → (a ≡ false) ⊎ (b ≡ false)
+unfolding _and_
+and-fails true b e = inr e
+and-fails false b e = inl refl
+
 pub or-left : (a b : Bool) → a or b ≡ false → a ≡ false
 unfolding _or_
 or-left true b e = e

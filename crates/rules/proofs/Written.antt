@@ -15,6 +15,7 @@ use Rattle.rules.specs.Layout.{bodyLength, bodyAt, bookLength, bodyView,
 use Rattle.rules.proofs.Flat.{flat-cong, length-flat, flat-parts, part-add, part-behind, part-flat}
 use Rattle.rules.proofs.Bytes.{Octets, length-bytes, number-front, number-append, number-flat, number-bytes, bytes-number}
 use Rattle.rules.proofs.Body.{Agree, Fits, Fits4, length-body, read-body, write-body}
+use Rattle.rules.proofs.Congruence.{body-cong}
 
 module _ (n p : ℕ) (numbers : ℕ → ℕ) (pile : ℕ → Pile) where
   length-entry : (k : ℕ) → length (entryBytes n p numbers k) ≡ 6
@@ -86,36 +87,39 @@ head-four (v ∷ n ∷ []) l = absurd (omega arith)
 head-four (v ∷ n ∷ p ∷ []) l = absurd (omega arith)
 head-four (v ∷ n ∷ p ∷ z ∷ b) l = refl
 
--- a book whose length, head and positions are right is what writing its parts gives
-module _ (b : List ℕ) (o : Octets b) (long : 4 ≤ length b) (version : getD b 0 0 ≡ 1) (last : getD b 3 0 ≡ 0)
-    (len : length b ≡ bookLength (desks b) (piles b))
-    (positions : (k : ℕ) → k < piles b → position b k ≡ bodyAt (desks b) (piles b) k) where
-  write-head : 1 ∷ desks b ∷ piles b ∷ 0 ∷ [] ≡ part 0 4 b
-  write-head = ap₂ (λ (v z : ℕ). v ∷ desks b ∷ piles b ∷ z ∷ []) (sym version) (sym last) ∙ sym (head-four b long)
+-- a list of bytes with the length, head, numbers, positions and piles of a book is what writing them gives
+module _ (n p : ℕ) (numbers : ℕ → ℕ) (pile : ℕ → Pile) (b : List ℕ) (o : Octets b) (len : length b ≡ bookLength n p)
+    (version : getD b 0 0 ≡ 1) (second : desks b ≡ n) (third : piles b ≡ p) (fourth : getD b 3 0 ≡ 0)
+    (numbered : (k : ℕ) → k < p → pileNumber b k ≡ numbers k)
+    (placed : (k : ℕ) → k < p → position b k ≡ bodyAt n p k)
+    (agree : (k : ℕ) → k < p → Agree n (bodyView n b (bodyAt n p k)) (pile k)) where
+  write-head : 1 ∷ n ∷ p ∷ 0 ∷ [] ≡ part 0 4 b
+  unfolding bookLength bodyAt
+  write-head =
+      ap₂ (λ (v n : ℕ). v ∷ n ∷ p ∷ 0 ∷ []) (sym version) (sym second)
+      ∙ ap₂ (λ (p z : ℕ). getD b 0 0 ∷ desks b ∷ p ∷ z ∷ []) (sym third) (sym fourth)
+      ∙ sym (head-four b (omega arith))
 
-  write-entry : (k : ℕ) → k < piles b → entryBytes (desks b) (piles b) (pileNumber b) k ≡ part (4 + k * 6) 6 b
+  write-entry : (k : ℕ) → k < p → entryBytes n p numbers k ≡ part (4 + k * 6) 6 b
   unfolding entryBytes pileNumber position bookLength bodyAt
   write-entry k l =
       let behind : 6 + k * 6 ≡ 4 + k * 6 + 2 = omega arith in
-      ap₂ _++_ (bytes-number 2 b (4 + k * 6) o (omega arith))
-      (ap (bytes 4) (sym (positions k l)) ∙ bytes-number 4 b (6 + k * 6) o (omega arith)
-      ∙ ap (λ (at : ℕ). part at 4 b) behind)
+      ap₂ _++_ (ap (bytes 2) (sym (numbered k l)) ∙ bytes-number 2 b (4 + k * 6) o (omega arith))
+      (ap (bytes 4) (sym (placed k l)) ∙ bytes-number 4 b (6 + k * 6) o (omega arith) ∙ ap (λ (at : ℕ). part at 4 b) behind)
       ∙ sym (part-add (4 + k * 6) 2 4 b)
 
-  write-pile : (k : ℕ) → k < piles b
-      → bodyBytes (desks b) (pileOf b k) ≡ part (4 + piles b * 6 + k * bodyLength (desks b)) (bodyLength (desks b)) b
-  unfolding pileOf bookLength bodyAt
+  write-pile : (k : ℕ) → k < p → bodyBytes n (pile k) ≡ part (4 + p * 6 + k * bodyLength n) (bodyLength n) b
+  unfolding bookLength bodyAt
   write-pile k l =
-      write-body (desks b) b (bodyAt (desks b) (piles b) k) o
-      (omega (arith, mul-le-mul-right (bodyLength (desks b)) l, suc-mul k (bodyLength (desks b))))
+      sym (body-cong n _ (pile k) (agree k l))
+      ∙ write-body n b (bodyAt n p k) o (omega (arith, mul-le-mul-right (bodyLength n) l, suc-mul k (bodyLength n)))
 
-  pub write-book : bookBytes (desks b) (piles b) (pileNumber b) (pileOf b) ≡ b
+  pub write-book : bookBytes n p numbers pile ≡ b
   unfolding bookBytes bookLength bodyAt
   write-book =
-      let contents : flat (piles b) (entryBytes (desks b) (piles b) (pileNumber b)) ≡ part 4 (piles b * 6) b
-      = flat-cong (piles b) write-entry ∙ flat-parts (piles b) 6 4 b in
-      let bodies : flat (piles b) (λ k. bodyBytes (desks b) (pileOf b k)) ≡ part (4 + piles b * 6) (piles b * bodyLength (desks b)) b
-      = flat-cong (piles b) write-pile ∙ flat-parts (piles b) (bodyLength (desks b)) (4 + piles b * 6) b in
-      ap₂ _++_ write-head (ap₂ _++_ contents bodies ∙ sym (part-add 4 (piles b * 6) (piles b * bodyLength (desks b)) b))
-      ∙ sym (part-add 0 4 (piles b * 6 + piles b * bodyLength (desks b)) b)
-      ∙ take-all (4 + (piles b * 6 + piles b * bodyLength (desks b))) b (omega arith)
+      let contents : flat p (entryBytes n p numbers) ≡ part 4 (p * 6) b = flat-cong p write-entry ∙ flat-parts p 6 4 b in
+      let bodies : flat p (λ k. bodyBytes n (pile k)) ≡ part (4 + p * 6) (p * bodyLength n) b
+      = flat-cong p write-pile ∙ flat-parts p (bodyLength n) (4 + p * 6) b in
+      ap₂ _++_ write-head (ap₂ _++_ contents bodies ∙ sym (part-add 4 (p * 6) (p * bodyLength n) b))
+      ∙ sym (part-add 0 4 (p * 6 + p * bodyLength n) b)
+      ∙ take-all (4 + (p * 6 + p * bodyLength n)) b (omega arith)

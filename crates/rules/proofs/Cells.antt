@@ -1,0 +1,44 @@
+-- Different cells of a book stand apart: a cell lies within its row, a row within its body, a body within the book.
+-- Assumes nothing.
+use Prim.Native.Nat.{ℕ, suc, _+_, _*_, _≤_, _<_}
+use native.Mathlib.Nat.{mul-le-mul-right, suc-mul}
+use native.Mathlib.Decide.{ℕ-discrete, decLt}
+use native.Mathlib.Omega.{arith}
+use mathlib.Core.Path.{_≡_, ap}
+use mathlib.Core.Logic.{_⊎_, inl, inr, ⊎-elim, by-cases, _≢_}
+use Rattle.rules.specs.Layout.{rowLength, bodyLength, bodyAt, cellAt}
+use Rattle.rules.proofs.Put.{Apart}
+
+-- of two different numbers one is below the other
+pub below-or-above : (a b : ℕ) → a ≢ b → (a < b) ⊎ (b < a)
+below-or-above a b h = by-cases (decLt a b) inl (λ n. inr (omega arith))
+
+-- pieces of one length with different numbers, and places in them
+pieces-apart : (ℓ k k′ j j′ w : ℕ) → k ≢ k′ → j + w ≤ ℓ → j′ + w ≤ ℓ → Apart (k * ℓ + j) w (k′ * ℓ + j′) w
+pieces-apart ℓ k k′ j j′ w h fits fits′ =
+    ⊎-elim (λ l. inl (omega (arith, mul-le-mul-right ℓ l, suc-mul k ℓ))) (λ l. inr (omega (arith, mul-le-mul-right ℓ l, suc-mul k′ ℓ)))
+    (below-or-above k k′ h)
+
+-- a cell of n desks lies within its body
+pub cell-fits : (n r c : ℕ) → r < suc n → c < 2 + (n + n) → cellAt n r c + 4 ≤ bodyLength n
+unfolding cellAt rowLength bodyLength
+cell-fits n r c r<n c<w = omega (arith, mul-le-mul-right (8 * (n + 1)) r<n)
+
+-- cells of different bodies, and different cells of one body
+pub bodies-apart : (n p k k′ r r′ c c′ : ℕ) → r < suc n → r′ < suc n → c < 2 + (n + n) → c′ < 2 + (n + n) → k ≢ k′
+    → Apart (bodyAt n p k + cellAt n r c) 4 (bodyAt n p k′ + cellAt n r′ c′) 4
+unfolding bodyAt
+bodies-apart n p k k′ r r′ c c′ r<n r′<n c<w c′<w h =
+    ⊎-elim (λ l. inl (omega arith)) (λ l. inr (omega arith))
+    (pieces-apart (bodyLength n) k k′ (cellAt n r c) (cellAt n r′ c′) 4 h (cell-fits n r c r<n c<w) (cell-fits n r′ c′ r′<n c′<w))
+
+pub cells-apart : (n at r r′ c c′ : ℕ) → c < 2 + (n + n) → c′ < 2 + (n + n) → (r ≢ r′) ⊎ (c ≢ c′)
+    → Apart (at + cellAt n r c) 4 (at + cellAt n r′ c′) 4
+unfolding cellAt rowLength
+cells-apart n at r r′ c c′ c<w c′<w h =
+    by-cases (ℕ-discrete r r′)
+    (λ e. ⊎-elim (λ l. inl (omega (arith, ap (λ (r : ℕ). r * (8 * (n + 1))) e)))
+    (λ l. inr (omega (arith, ap (λ (r : ℕ). r * (8 * (n + 1))) e)))
+    (below-or-above c c′ (⊎-elim (λ d. absurd (d e)) (λ d. d) h)))
+    (λ d. ⊎-elim (λ l. inl (omega arith)) (λ l. inr (omega arith))
+    (pieces-apart (8 * (n + 1)) r r′ (c * 4) (c′ * 4) 4 d (omega arith) (omega arith)))

@@ -1,0 +1,119 @@
+-- Rules and bytes of a pile depend only on its numbers, as far as n desks go.
+-- Assumes nothing.
+use Prim.Native.Nat.{ℕ, zero, suc, _+_, _-_, _≤_, _<_}
+use native.Mathlib.Nat.{le-of-suc-le-suc}
+use mathlib.Core.Path.{_≡_, refl, ap, ap₂, sym, subst, _∙_}
+use mathlib.Core.List.{List, [], _∷_, _++_}
+use Rattle.rules.specs.Loops.{sum}
+use Rattle.rules.specs.Numbers.{bytes, encode}
+use Rattle.rules.specs.Pile.{Side, draw, tip, other, Pile, credit, debit, rights, tallyLimit}
+use Rattle.rules.specs.Acts.{Kind, spend, give, side, tally}
+use Rattle.rules.specs.Layout.{bodyAt, rowOf, bodyRow, bodyBytes, entryBytes, bookBytes}
+use Rattle.rules.proofs.Sums.{sum-cong}
+use Rattle.rules.proofs.Facts.{OpeningFacts, PileFacts}
+use Rattle.rules.proofs.Acted.{Receives, ActFacts}
+use Rattle.rules.proofs.Flat.{flat-cong, list-cong}
+use Rattle.rules.proofs.Body.{Agree}
+
+pub agree-refl : {n : ℕ} {p : Pile} → Agree n p p
+agree-refl =
+    record {
+      floor = refl;
+      top = refl;
+      share = λ s i l. refl;
+      earned = λ s i l. refl;
+      give = λ s i j l m. refl;
+    }
+
+pub agree-sym : {n : ℕ} {p q : Pile} → Agree n p q → Agree n q p
+agree-sym a =
+    record {
+      floor = sym (a .floor);
+      top = sym (a .top);
+      share = λ s i l. sym (a .share s i l);
+      earned = λ s i l. sym (a .earned s i l);
+      give = λ s i j l m. sym (a .give s i j l m);
+    }
+
+pub agree-trans : {n : ℕ} {p q r : Pile} → Agree n p q → Agree n q r → Agree n p r
+agree-trans a b =
+    record {
+      floor = a .floor ∙ b .floor;
+      top = a .top ∙ b .top;
+      share = λ s i l. a .share s i l ∙ b .share s i l;
+      earned = λ s i l. a .earned s i l ∙ b .earned s i l;
+      give = λ s i j l m. a .give s i j l m ∙ b .give s i j l m;
+    }
+
+row-cong : (n : ℕ) (f g : Side → ℕ → ℕ) → ((s : Side) (j : ℕ) → j < n → f s j ≡ g s j) → {x x′ y y′ : ℕ} → x ≡ x′ → y ≡ y′
+    → rowOf n x y f ≡ rowOf n x′ y′ g
+unfolding rowOf
+row-cong n f g h e d =
+    ap₂ (λ (k : ℕ) (r : List ℕ). k ∷ r) e
+    (ap₂ (λ (k : ℕ) (r : List ℕ). k ∷ r) d (ap₂ _++_ (list-cong n (h draw)) (list-cong n (h tip))))
+
+module _ (n : ℕ) (p q : Pile) (a : Agree n p q) where
+  credit-cong : (s : Side) (i : ℕ) → i < n → credit n p s i ≡ credit n q s i
+  unfolding credit
+  credit-cong s i l =
+      ap₂ _+_ (ap₂ _+_ (a .share s i l) (a .earned s i l)) (sum-cong n (λ j m. a .give s j i m l))
+
+  debit-cong : (s : Side) (i : ℕ) → i < n → debit n p s i ≡ debit n q s i
+  unfolding debit
+  debit-cong s i l = ap₂ _+_ (sum-cong n (λ j m. a .give s i j l m)) (a .earned (other s) i l)
+
+  pub rights-cong : (s : Side) (i : ℕ) → i < n → rights n p s i ≡ rights n q s i
+  unfolding rights
+  rights-cong s i l = ap₂ _-_ (credit-cong s i l) (debit-cong s i l)
+
+  pub opening-cong : OpeningFacts n p → OpeningFacts n q
+  opening-cong o =
+      record {
+        floor-top = rw (← a .floor, ← a .top) (o .floor-top);
+        top-limit = rw (← a .top) (o .top-limit);
+        shares =
+            sym (ap₂ _+_ (sum-cong n (a .share draw)) (sum-cong n (a .share tip))) ∙ o .shares ∙ ap₂ _-_ (a .top) (a .floor);
+      }
+
+  pub facts-cong : PileFacts n p → PileFacts n q
+  facts-cong f =
+      record {
+        opening = opening-cong (f .opening);
+        earned-limit = λ s i l. subst (λ (x : ℕ). x ≤ tallyLimit) (a .earned s i l) (f .earned-limit s i l);
+        give-limit = λ s i j l m. subst (λ (x : ℕ). x ≤ tallyLimit) (a .give s i j l m) (f .give-limit s i j l m);
+        give-self = λ s i l. sym (a .give s i i l l) ∙ f .give-self s i l;
+        covered = λ s i l. rw (← credit-cong s i l, ← debit-cong s i l) (f .covered s i l);
+      }
+
+  pub tally-cong : (i : ℕ) (kind : Kind) → i < n → Receives n i kind → tally p i kind ≡ tally q i kind
+  tally-cong i (spend s) l r = a .earned (other s) i l
+  tally-cong i (give s j) l r = a .give s i j l (r .0)
+
+  pub act-facts-cong : (i : ℕ) (kind : Kind) (t : ℕ) → i < n → ActFacts n p i kind t → ActFacts n q i kind t
+  act-facts-cong i kind t l f =
+      record {
+        receives = f .receives;
+        positive = f .positive;
+        amount-limit = f .amount-limit;
+        enough = subst (λ (x : ℕ). t ≤ x) (rights-cong (side kind) i l) (f .enough);
+        room = subst (λ (x : ℕ). x + t ≤ tallyLimit) (tally-cong i kind l (f .receives)) (f .room);
+      }
+
+  pub body-row-cong : (r : ℕ) → r < suc n → bodyRow n p r ≡ bodyRow n q r
+  unfolding bodyRow
+  body-row-cong zero l = row-cong n (p .share) (q .share) (a .share) (a .floor) (a .top)
+  body-row-cong (suc i) l =
+      let m : i < n = le-of-suc-le-suc l in
+      row-cong n (λ s. p .give s i) (λ s. q .give s i) (λ s j. a .give s i j m) (a .earned draw i m) (a .earned tip i m)
+
+  pub body-cong : bodyBytes n p ≡ bodyBytes n q
+  unfolding bodyBytes
+  body-cong = flat-cong (suc n) (λ r l. ap encode (body-row-cong r l))
+
+pub book-cong : (n p : ℕ) (numbers numbers′ : ℕ → ℕ) (P Q : ℕ → Pile) → ((k : ℕ) → k < p → numbers k ≡ numbers′ k)
+    → ((k : ℕ) → k < p → Agree n (P k) (Q k)) → bookBytes n p numbers P ≡ bookBytes n p numbers′ Q
+unfolding bookBytes entryBytes
+book-cong n p numbers numbers′ P Q e a =
+    ap (λ (r : List ℕ). (1 ∷ n ∷ p ∷ 0 ∷ []) ++ r)
+    (ap₂ _++_ (flat-cong p (λ k l. ap (λ (x : ℕ). bytes 2 x ++ bytes 4 (bodyAt n p k)) (e k l)))
+    (flat-cong p (λ k l. body-cong n (P k) (Q k) (a k l))))

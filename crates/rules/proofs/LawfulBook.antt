@@ -1,0 +1,110 @@
+-- A book written from lawful piles under rising numbers is readable, and its bytes are bytes.
+-- Assumes nothing.
+use Prim.Native.Nat.{ℕ, zero, suc, _+_, _*_, _^_, _≤_, _<_}
+use native.Mathlib.Nat.{le-of-suc-le, lt-of-le-of-lt}
+use native.Mathlib.Omega.{arith}
+use mathlib.Core.Path.{_≡_, refl, ap, ap₂, sym, _∙_}
+use mathlib.Core.Bool.{Bool, true}
+use mathlib.Core.List.{List, [], _∷_, _++_}
+use lib.ListN.{length, getD}
+use lib.Dec.{lit<, ltb, leb}
+use borrow.Author.Tests.{leb-true}
+use Rattle.rules.specs.Loops.{_and_, flat, every}
+use Rattle.rules.specs.Numbers.{bytes, encode}
+use Rattle.rules.specs.Pile.{Pile, pileAnswer}
+use Rattle.rules.specs.Layout.{deskLimit, pileLimit, pileNumberLimit, bodyAt, bookLength, desks, piles, pileNumber, position, pileOf, bodyBytes, bodyRow, entryBytes, bookBytes}
+use Rattle.rules.specs.Opening.{previous, rising}
+use Rattle.rules.specs.Book.{bookAnswer}
+use Rattle.rules.proofs.Tests.{and-left, and-right, every-at, every-cong}
+use Rattle.rules.proofs.Facts.{PileFacts, passes}
+use Rattle.rules.proofs.Bytes.{Octets, octets-bytes}
+use Rattle.rules.proofs.Body.{Agree, Fits, Fits4, lawful-fits}
+use Rattle.rules.proofs.Congruence.{agree-sym, facts-cong}
+use Rattle.rules.proofs.Written.{length-book, read-number, read-position, read-pile}
+use Rattle.rules.proofs.Readable.{BookFacts, book-passes, lengths}
+
+octets-append : (a b : List ℕ) → Octets a → Octets b → Octets (a ++ b)
+octets-append [] b oa ob k = ob k
+octets-append (x ∷ a) b oa ob zero = oa 0
+octets-append (x ∷ a) b oa ob (suc k) = octets-append a b (λ k. oa (suc k)) ob k
+
+octets-flat : (m : ℕ) (f : ℕ → List ℕ) → ((k : ℕ) → Octets (f k)) → Octets (flat m f)
+unfolding flat
+octets-flat zero f o k = lit< tt
+octets-flat (suc m) f o k = octets-append (flat m f) (f m) (octets-flat m f o) (o m) k
+
+octets-encode : (l : List ℕ) → Octets (encode l)
+unfolding encode
+octets-encode [] k = lit< tt
+octets-encode (x ∷ l) k = octets-append (bytes 4 x) (encode l) (octets-bytes 4 x) (octets-encode l) k
+
+pub rising-cong : (p : ℕ) (f g : ℕ → ℕ) → ((k : ℕ) → k < p → f k ≡ g k) → rising p f ≡ rising p g
+unfolding rising
+rising-cong p f g h = every-cong p same
+  where
+    same : (k : ℕ) → k < p
+        → ltb (previous f k) (f k) and leb (f k) pileNumberLimit ≡ ltb (previous g k) (g k) and leb (g k) pileNumberLimit
+    same zero l = ap (λ (x : ℕ). ltb 0 x and leb x pileNumberLimit) (h 0 l)
+    same (suc k) l = ap₂ (λ (y x : ℕ). ltb y x and leb x pileNumberLimit) (h k (le-of-suc-le l)) (h (suc k) l)
+
+pub number-most : (p : ℕ) (f : ℕ → ℕ) → rising p f ≡ true → (k : ℕ) → k < p → f k < 256 ^ 2
+unfolding rising
+number-most p f e k l =
+    let most : f k ≤ pileNumberLimit = leb-true _ _ (and-right _ _ (every-at p _ e k l)) in
+    omega arith
+
+-- the numbers of desks and piles are in range, and the pile numbers rise
+pub record Frame (n p : ℕ) (numbers : ℕ → ℕ) : Type 0 where
+  pub desks-least : 1 ≤ n
+  pub desks-most : n ≤ deskLimit
+  pub piles-least : 1 ≤ p
+  pub piles-most : p ≤ pileLimit
+  pub rises : rising p numbers ≡ true
+
+module _ (n p : ℕ) (numbers : ℕ → ℕ) (frame : Frame n p numbers) (pile : ℕ → Pile) where
+  pub written-octets : Octets (bookBytes n p numbers pile)
+  unfolding bookBytes bodyBytes entryBytes
+  written-octets =
+      let contents = flat p (entryBytes n p numbers) in
+      let bodies = flat p (λ k. bodyBytes n (pile k)) in
+      octets-append (1 ∷ n ∷ p ∷ 0 ∷ []) (contents ++ bodies) head
+      (octets-append contents bodies
+      (octets-flat p (entryBytes n p numbers)
+      (λ k. octets-append (bytes 2 (numbers k)) (bytes 4 (bodyAt n p k)) (octets-bytes 2 (numbers k)) (octets-bytes 4 (bodyAt n p k))))
+      (octets-flat p (λ k. bodyBytes n (pile k))
+      (λ k. octets-flat (suc n) (λ r. encode (bodyRow n (pile k) r)) (λ r. octets-encode (bodyRow n (pile k) r)))))
+    where
+      head : Octets (1 ∷ n ∷ p ∷ 0 ∷ [])
+      head zero = lit< tt
+      head (suc zero) = omega (arith, frame .desks-most)
+      head (suc (suc zero)) = omega (arith, frame .piles-most)
+      head (suc (suc (suc zero))) = lit< tt
+      head (suc (suc (suc (suc k)))) = lit< tt
+
+  pub written-number : (k : ℕ) → k < p → pileNumber (bookBytes n p numbers pile) k ≡ numbers k
+  written-number k l = read-number n p numbers pile k l (number-most p numbers (frame .rises) k l)
+
+  module _ (lawful : (k : ℕ) → k < p → PileFacts n (pile k)) where
+    pub written-pile : (k : ℕ) → k < p → Agree n (pileOf (bookBytes n p numbers pile) k) (pile k)
+    written-pile k l = read-pile n p numbers pile k l (lawful-fits n (pile k) (lawful k l))
+
+    pub written-facts : BookFacts (bookBytes n p numbers pile)
+    unfolding bookBytes
+    written-facts =
+        let size = lengths n p (frame .desks-least) (frame .desks-most) (frame .piles-least) (frame .piles-most) in
+        record {
+          long = omega (arith, length-book n p numbers pile, size .0);
+          version = refl;
+          fourth = refl;
+          desks-least = frame .desks-least;
+          desks-most = frame .desks-most;
+          piles-least = frame .piles-least;
+          piles-most = frame .piles-most;
+          sized = length-book n p numbers pile;
+          rises = rising-cong p _ numbers written-number ∙ frame .rises;
+          placed = λ k l. read-position n p numbers pile k l (omega (arith, size .1));
+          bodies = λ k l. passes n _ (facts-cong n (pile k) _ (agree-sym (written-pile k l)) (lawful k l));
+        }
+
+    pub written-readable : bookAnswer (bookBytes n p numbers pile) ≡ 0
+    written-readable = book-passes _ written-facts
