@@ -1,1 +1,11 @@
 pub mod Laws
+pub mod Sets
+pub mod Tails
+pub mod Moments
+pub mod Entries
+pub mod Good
+pub mod Stages
+pub mod Accepted
+pub mod Sequential
+pub mod Demand
+pub mod Guarantees

@@ -10,16 +10,16 @@ use Rattle.history.specs.Replica.{Replica, Call, act, take, Valid}
 use Rattle.history.specs.Books.{books}
 use Rattle.history.specs.Ledger.{Acts, lone, ledger}
 
+abbrev pub IfMember : Bool → Type 0 → Type 0
+IfMember true P = P
+IfMember false P = Unit {0}
+
 -- n desks, all starting with `start`; `Within` is what every state must keep (of the book: each pile between floor and top)
 module _ (R : Replica) (n : ℕ) (Within : R .State → Type 0) (start : R .State) where
   -- What entering one member of a set asks: it is an act, it is answered 0 at its turn, and what it leaves is within bounds.
   abbrev pub Enters : Call (R .Act) → R .State → R .State → Type 0
   Enters (act d a) before after = (R .actAnswer d a before ≡ 0) × Within after
   Enters (take d e m) before after = ⊥
-
-  abbrev pub IfMember : Bool → Type 0 → Type 0
-  IfMember true P = P
-  IfMember false P = Unit {0}
 
   -- along the lone dispatcher's run no act is refused, and every state is within bounds
   abbrev pub Accepted : List (Call (R .Act)) → Acts → Type 0

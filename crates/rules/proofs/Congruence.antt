@@ -3,11 +3,13 @@
 use Prim.Native.Nat.{ℕ, zero, suc, _+_, _-_, _≤_, _<_}
 use native.Mathlib.Nat.{le-of-suc-le-suc}
 use mathlib.Core.Path.{_≡_, refl, ap, ap₂, sym, subst, _∙_}
+use mathlib.Core.Bool.{cond}
 use mathlib.Core.List.{List, [], _∷_, _++_}
-use Rattle.rules.specs.Loops.{sum}
+use lib.Dec.{eqb}
+use Rattle.rules.specs.Loops.{_and_, sum}
 use Rattle.rules.specs.Numbers.{bytes, encode}
 use Rattle.rules.specs.Pile.{Side, draw, tip, other, Pile, credit, debit, rights, tallyLimit}
-use Rattle.rules.specs.Acts.{Kind, spend, give, side, tally}
+use Rattle.rules.specs.Acts.{Kind, spend, give, side, tally, sameSide, acted}
 use Rattle.rules.specs.Layout.{bodyAt, rowOf, bodyRow, bodyBytes, entryBytes, bookBytes}
 use Rattle.rules.proofs.Sums.{sum-cong}
 use Rattle.rules.proofs.Facts.{OpeningFacts, PileFacts}
@@ -97,6 +99,26 @@ module _ (n : ℕ) (p q : Pile) (a : Agree n p q) where
         amount-limit = f .amount-limit;
         enough = subst (λ (x : ℕ). t ≤ x) (rights-cong (side kind) i l) (f .enough);
         room = subst (λ (x : ℕ). x + t ≤ tallyLimit) (tally-cong i kind l (f .receives)) (f .room);
+      }
+
+  -- an act leaves piles that agree in agreement
+  pub acted-cong : (i : ℕ) (kind : Kind) (t : ℕ) → Agree n (acted p i kind t) (acted q i kind t)
+  unfolding acted
+  acted-cong i (spend s) t =
+      record {
+        floor = a .floor;
+        top = a .top;
+        share = a .share;
+        earned = λ s′ k l. ap (λ (x : ℕ). cond (sameSide s′ (other s) and eqb k i) (x + t) x) (a .earned s′ k l);
+        give = a .give;
+      }
+  acted-cong i (give s j) t =
+      record {
+        floor = a .floor;
+        top = a .top;
+        share = a .share;
+        earned = a .earned;
+        give = λ s′ k m l l′. ap (λ (x : ℕ). cond (sameSide s′ s and eqb k i and eqb m j) (x + t) x) (a .give s′ k m l l′);
       }
 
   pub body-row-cong : (r : ℕ) → r < suc n → bodyRow n p r ≡ bodyRow n q r

@@ -18,3 +18,5 @@ pub mod PutCell
 pub mod AfterAct
 pub mod LawfulBook
 pub mod Opened
+pub mod Grown
+pub mod Runs

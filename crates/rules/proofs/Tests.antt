@@ -120,6 +120,14 @@ unfolding _orElse_
 orElse-rest zero b e = e
 orElse-rest (suc a) b e = absurd (suc-ne-zero a e)
 
+pub not-met : (number : ℕ) {c : Bool} → c ≡ false → number when c ≡ 0
+unfolding _when_
+not-met number e = ap (λ (c : Bool). number when c) e
+
+pub none-met : {a b : ℕ} → a ≡ 0 → b ≡ 0 → a orElse b ≡ 0
+unfolding _orElse_
+none-met e d = ap₂ _orElse_ e d
+
 pub first-at : (n : ℕ) (f : ℕ → ℕ) → first n f ≡ 0 → (k : ℕ) → k < n → f k ≡ 0
 unfolding first
 first-at zero f e k l = absurd (not-suc-le-zero l)
