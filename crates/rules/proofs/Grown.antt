@@ -81,6 +81,13 @@ not-named e c = ap (λ (b : Bool). b and c) e
 abbrev pub at : ℕ → (ℕ → ℕ) → ℕ → ℕ
 at p numbers number = index p (λ k. eqb (numbers k) number)
 
+-- does an act name those tallies of pile k
+abbrev pub earnsAt : ℕ → (ℕ → ℕ) → ℕ → Side → Act → Bool
+earnsAt p numbers k s a = eqb k (at p numbers (a .pile)) and earns (a .kind) s
+
+abbrev pub givesAt : ℕ → (ℕ → ℕ) → ℕ → Side → ℕ → Act → Bool
+givesAt p numbers k s j a = eqb k (at p numbers (a .pile)) and gives (a .kind) s j
+
 module _ (p : ℕ) (numbers : ℕ → ℕ) (start : ℕ → Pile) where
   abbrev pub grown : List (ℕ × Act) → ℕ → Pile
   grown es k =
@@ -88,8 +95,8 @@ module _ (p : ℕ) (numbers : ℕ → ℕ) (start : ℕ → Pile) where
         floor = start k .floor;
         top = start k .top;
         share = start k .share;
-        earned = λ s i. start k .earned s i + added (λ a. eqb k (at p numbers (a .pile)) and earns (a .kind) s) (own i es);
-        give = λ s i j. start k .give s i j + added (λ a. eqb k (at p numbers (a .pile)) and gives (a .kind) s j) (own i es);
+        earned = λ s i. start k .earned s i + added (earnsAt p numbers k s) (own i es);
+        give = λ s i j. start k .give s i j + added (givesAt p numbers k s j) (own i es);
       }
 
   pub grown-none : (n k : ℕ) → Agree n (start k) (grown [] k)

@@ -20,3 +20,5 @@ pub mod LawfulBook
 pub mod Opened
 pub mod Grown
 pub mod Runs
+pub mod Monotone
+pub mod EqualBooks

@@ -40,61 +40,57 @@ actedAt-cong n P Q k i kind t k′ a = go (eqb k′ k)
     go true = acted-cong n (P k′) (Q k′) a i kind t
     go false = a
 
+abbrev pub Lawful : ℕ → ℕ → (ℕ → Pile) → Type 0
+Lawful n p P = (k : ℕ) → k < p → PileFacts n (P k)
+
 module _ (n p : ℕ) (numbers : ℕ → ℕ) (frame : Frame n p numbers) where
-  -- the book written from piles under these numbers
-  abbrev pub bookOf : (ℕ → Pile) → List ℕ
-  bookOf P = bookBytes n p numbers P
-
-  abbrev pub Lawful : (ℕ → Pile) → Type 0
-  Lawful P = (k : ℕ) → k < p → PileFacts n (P k)
-
-  module _ (P : ℕ → Pile) (lawful : Lawful P) where
-    pub place-of : (number : ℕ) → place (bookOf P) number ≡ at p numbers number
+  module _ (P : ℕ → Pile) (lawful : Lawful n p P) where
+    pub place-of : (number : ℕ) → place (bookBytes n p numbers P) number ≡ at p numbers number
     unfolding place bookBytes
     place-of number = index-cong p _ _ (λ k l. ap (λ (x : ℕ). eqb x number) (written-number n p numbers frame P k l))
 
     -- an act is accepted exactly where its desk and its pile are there, and the pile allows it
-    pub accepted-facts : (i : ℕ) (a : Act) → actAnswer i a (bookOf P) ≡ 0
+    pub accepted-facts : (i : ℕ) (a : Act) → actAnswer i a (bookBytes n p numbers P) ≡ 0
         → (i < n) × (at p numbers (a .pile) < p) × ActFacts n (P (at p numbers (a .pile))) i (a .kind) (a .amount)
     unfolding bookBytes
     accepted-facts i a e =
-        let i<n : i < n = act-desk i a (bookOf P) e in
-        let k<p : at p numbers (a .pile) < p = subst (λ (k : ℕ). k < p) (place-of (a .pile)) (act-pile i a (bookOf P) e) in
-        let allowed : ActFacts n (pileOf (bookOf P) (at p numbers (a .pile))) i (a .kind) (a .amount)
-        = subst (λ (k : ℕ). ActFacts n (pileOf (bookOf P) k) i (a .kind) (a .amount)) (place-of (a .pile)) (act-allowed i a (bookOf P) e) in
+        let i<n : i < n = act-desk i a (bookBytes n p numbers P) e in
+        let k<p : at p numbers (a .pile) < p = subst (λ (k : ℕ). k < p) (place-of (a .pile)) (act-pile i a (bookBytes n p numbers P) e) in
+        let allowed : ActFacts n (pileOf (bookBytes n p numbers P) (at p numbers (a .pile))) i (a .kind) (a .amount)
+        = subst (λ (k : ℕ). ActFacts n (pileOf (bookBytes n p numbers P) k) i (a .kind) (a .amount)) (place-of (a .pile)) (act-allowed i a (bookBytes n p numbers P) e) in
         (i<n, k<p, act-facts-cong n _ _ (written-pile n p numbers frame P lawful _ k<p) i (a .kind) (a .amount) i<n allowed)
 
     pub facts-accepted : (i : ℕ) (a : Act) → i < n → at p numbers (a .pile) < p
-        → ActFacts n (P (at p numbers (a .pile))) i (a .kind) (a .amount) → actAnswer i a (bookOf P) ≡ 0
+        → ActFacts n (P (at p numbers (a .pile))) i (a .kind) (a .amount) → actAnswer i a (bookBytes n p numbers P) ≡ 0
     unfolding actAnswer deskAnswer absent bookBytes
     facts-accepted i a i<n k<p f =
         none-met
         (none-met (written-readable n p numbers frame P lawful)
         (none-met (not-met 11 (ap not (lt-ltb i n i<n)))
         (not-met 10 (ap (λ (k : ℕ). eqb k p) (place-of (a .pile)) ∙ ne-eqb _ p (ne-of-lt k<p)))))
-        (ap (λ (k : ℕ). actRefusal n (pileOf (bookOf P) k) i (a .kind) (a .amount)) (place-of (a .pile))
+        (ap (λ (k : ℕ). actRefusal n (pileOf (bookBytes n p numbers P) k) i (a .kind) (a .amount)) (place-of (a .pile))
         ∙ act-passes n _ i (a .kind) (a .amount)
         (act-facts-cong n _ _ (agree-sym (written-pile n p numbers frame P lawful _ k<p)) i (a .kind) (a .amount) i<n f))
 
     -- the book after it
-    pub accepted-book : (i : ℕ) (a : Act) → actAnswer i a (bookOf P) ≡ 0
-        → (afterAct i a (bookOf P) ≡ bookOf (actedAt P (at p numbers (a .pile)) i (a .kind) (a .amount)))
-        × Lawful (actedAt P (at p numbers (a .pile)) i (a .kind) (a .amount))
+    pub accepted-book : (i : ℕ) (a : Act) → actAnswer i a (bookBytes n p numbers P) ≡ 0
+        → (afterAct i a (bookBytes n p numbers P) ≡ bookBytes n p numbers (actedAt P (at p numbers (a .pile)) i (a .kind) (a .amount)))
+        × Lawful n p (actedAt P (at p numbers (a .pile)) i (a .kind) (a .amount))
     unfolding bookBytes
     accepted-book i a e =
         let k = at p numbers (a .pile) in
         let agree : (k′ : ℕ) → k′ < p
-        → Agree n (actedAt (pileOf (bookOf P)) (place (bookOf P) (a .pile)) i (a .kind) (a .amount) k′) (actedAt P k i (a .kind) (a .amount) k′)
-        = λ k′ l. rw (place-of (a .pile)) (actedAt-cong n (pileOf (bookOf P)) P k i (a .kind) (a .amount) k′ (written-pile n p numbers frame P lawful k′ l)) in (
-          after-act i a (bookOf P) (written-octets n p numbers frame P) e
+        → Agree n (actedAt (pileOf (bookBytes n p numbers P)) (place (bookBytes n p numbers P) (a .pile)) i (a .kind) (a .amount) k′) (actedAt P k i (a .kind) (a .amount) k′)
+        = λ k′ l. rw (place-of (a .pile)) (actedAt-cong n (pileOf (bookBytes n p numbers P)) P k i (a .kind) (a .amount) k′ (written-pile n p numbers frame P lawful k′ l)) in (
+          after-act i a (bookBytes n p numbers P) (written-octets n p numbers frame P) e
               ∙ book-cong n p _ numbers _ _ (written-number n p numbers frame P) agree,
-          λ k′ l. facts-cong n _ _ (agree k′ l) (lawful-after i a (bookOf P) (written-octets n p numbers frame P) e k′ l),
+          λ k′ l. facts-cong n _ _ (agree k′ l) (lawful-after i a (bookBytes n p numbers P) (written-octets n p numbers frame P) e k′ l),
         )
 
   -- the run of a list of entered acts, from the book of lawful piles
-  module _ (start : ℕ → Pile) (lawful : Lawful start) where
-    pub runs : (es : List (ℕ × Act)) → Entered book n (bookOf start) es
-        → (run book (bookOf start) es ≡ bookOf (grown p numbers start es)) × Lawful (grown p numbers start es)
+  module _ (start : ℕ → Pile) (lawful : Lawful n p start) where
+    pub runs : (es : List (ℕ × Act)) → Entered book n (bookBytes n p numbers start) es
+        → (run book (bookBytes n p numbers start) es ≡ bookBytes n p numbers (grown p numbers start es)) × Lawful n p (grown p numbers start es)
     runs [] h = (
       book-cong n p numbers numbers start _ (λ k l. refl) (λ k l. grown-none p numbers start n k),
       λ k l. facts-cong n _ _ (grown-none p numbers start n k) (lawful k l),
