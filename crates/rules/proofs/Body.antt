@@ -1,9 +1,11 @@
 -- Reading a body that was written, and writing a body that was read. Both go row by row: a row is its 2(n + 1) numbers in column order.
 -- Assumes nothing.
-use Prim.Native.Nat.{ℕ, zero, suc, _+_, _*_, _^_, _≤_, _<_, suc-le-suc}
+use Prim.Native.Nat.{ℕ, zero, suc, _+_, _-_, _*_, _^_, _≤_, _<_, suc-le-suc}
 use native.Mathlib.Nat.{le-refl, le-trans, le-of-lt, lt-of-le-of-lt, zero-lt-suc, suc-mul, add-assoc, mul-le-mul-right}
+use native.Mathlib.Decide.{decLt}
 use native.Mathlib.Omega.{arith}
 use mathlib.Core.Path.{_≡_, refl, ap, ap₂, sym, subst, _∙_}
+use mathlib.Core.Logic.{by-cases}
 use mathlib.Core.List.{List, [], _∷_, _++_}
 use lib.ListN.{length, getD, length-append, List·getD-append}
 use lib.Seq.{getD-append-add}
@@ -73,6 +75,14 @@ module _ (n a b : ℕ) (f : Side → ℕ → ℕ) where
       ∙ getD-append-add (list n (f draw)) (list n (f tip)) j 0
       ∙ getD-list n (f tip) 0 j l
 
+-- every column is floor or tipped, top or drawn, or that of a side and a desk
+pub by-column : (n : ℕ) (P : ℕ → Type 0) → P 0 → P 1 → ((s : Side) (j : ℕ) → j < n → P (column n s j)) → (c : ℕ) → c < 2 + (n + n) → P c
+by-column n P first second rest zero l = first
+by-column n P first second rest (suc zero) l = second
+by-column n P first second rest (suc (suc c)) l =
+    by-cases (decLt c n) (λ c<n. subst P (omega arith) (rest draw c c<n))
+    (λ c≥n. subst P (omega arith) (rest tip (c - n) (omega arith)))
+
 pub column-below : (n : ℕ) (s : Side) (j : ℕ) → j < n → column n s j < 2 + (n + n)
 column-below n draw j l = omega arith
 column-below n tip j l = omega arith
@@ -88,19 +98,19 @@ unfolding bodyRow
 view-row n cell zero = row-of-columns n (cell 0)
 view-row n cell (suc i) = row-of-columns n (cell (suc i))
 
-length-numbers : (n : ℕ) (p : Pile) (r : ℕ) → length (bodyRow n p r) ≡ 2 + (n + n)
+pub length-numbers : (n : ℕ) (p : Pile) (r : ℕ) → length (bodyRow n p r) ≡ 2 + (n + n)
 unfolding bodyRow
 length-numbers n p zero = length-row n (p .floor) (p .top) (p .share)
 length-numbers n p (suc i) = length-row n (p .earned draw i) (p .earned tip i) (λ s. p .give s i)
 
-row-length : (n : ℕ) → (2 + (n + n)) * 4 ≡ rowLength n
+pub row-length : (n : ℕ) → (2 + (n + n)) * 4 ≡ rowLength n
 unfolding rowLength
 row-length n = omega arith
 
 pub length-body-row : (n : ℕ) (p : Pile) (r : ℕ) → length (encode (bodyRow n p r)) ≡ rowLength n
 length-body-row n p r = length-encode (bodyRow n p r) ∙ ap (λ (m : ℕ). m * 4) (length-numbers n p r) ∙ row-length n
 
-body-rows : (n : ℕ) → suc n * rowLength n ≡ bodyLength n
+pub body-rows : (n : ℕ) → suc n * rowLength n ≡ bodyLength n
 unfolding rowLength bodyLength
 body-rows n = omega arith
 

@@ -41,7 +41,7 @@ module _ {A : Type 0} where
   pub part-add : (at n m : ℕ) (l : List A) → part at (n + m) l ≡ part at n l ++ part (at + n) m l
   part-add at n m l = take-add n m (drop at l) ∙ ap (λ (r : List A). take n (drop at l) ++ take m r) (drop-drop n at l)
 
-  -- a part in the first of two lists, in the second, and that is a whole piece
+  -- a part in the first of two lists, in the second, in a piece, and that is a whole piece
   pub part-front : (at m : ℕ) (a b : List A) → at + m ≤ length a → part at m (a ++ b) ≡ part at m a
   part-front at m a b l =
       ap (take m) (drop-append-le at a b (omega arith))
@@ -50,18 +50,25 @@ module _ {A : Type 0} where
   pub part-behind : (at m : ℕ) (a b : List A) → part (length a + at) m (a ++ b) ≡ part at m b
   part-behind at m a b = ap (take m) (drop-append-add a b at)
 
-  pub part-flat : (m ℓ : ℕ) (f : ℕ → List A) → ((k : ℕ) → k < m → length (f k) ≡ ℓ)
-      → (k : ℕ) → k < m → part (k * ℓ) ℓ (flat m f) ≡ f k
+  pub part-in-flat : (m ℓ : ℕ) (f : ℕ → List A) → ((k : ℕ) → k < m → length (f k) ≡ ℓ)
+      → (k c n : ℕ) → k < m → c + n ≤ ℓ → part (k * ℓ + c) n (flat m f) ≡ part c n (f k)
   unfolding flat
-  part-flat zero ℓ f h k k<m = absurd (not-suc-le-zero k<m)
-  part-flat (suc m) ℓ f h k k<m =
+  part-in-flat zero ℓ f h k c n k<m l = absurd (not-suc-le-zero k<m)
+  part-in-flat (suc m) ℓ f h k c n k<m l =
       let len : length (flat m f) ≡ m * ℓ = length-flat m ℓ f (λ k l. h k (le-step l)) in
       ⊎-elim
-      (λ k≡m. ap (λ (n : ℕ). part n ℓ (flat m f ++ f m)) (ap (λ (n : ℕ). n * ℓ) k≡m ∙ sym len ∙ sym (add-zero (length (flat m f))))
-      ∙ part-behind 0 ℓ (flat m f) (f m) ∙ take-all ℓ (f m) (le-of-eq (h m (le-refl (suc m)))) ∙ ap f (sym k≡m))
-      (λ k<m. part-front (k * ℓ) ℓ (flat m f) (f m) (omega (arith, mul-le-mul-right ℓ k<m, suc-mul k ℓ))
-      ∙ part-flat m ℓ f (λ k l. h k (le-step l)) k k<m)
+      (λ k≡m. ap (λ (x : ℕ). part x n (flat m f ++ f m)) (ap (λ (x : ℕ). x * ℓ + c) k≡m ∙ ap (λ (x : ℕ). x + c) (sym len))
+      ∙ part-behind c n (flat m f) (f m) ∙ ap (λ (x : ℕ). part c n (f x)) (sym k≡m))
+      (λ k<m. part-front (k * ℓ + c) n (flat m f) (f m) (omega (arith, mul-le-mul-right ℓ k<m, suc-mul k ℓ))
+      ∙ part-in-flat m ℓ f (λ k l. h k (le-step l)) k c n k<m l)
       (eq-or-lt-of-le (le-of-suc-le-suc k<m))
+
+  pub part-flat : (m ℓ : ℕ) (f : ℕ → List A) → ((k : ℕ) → k < m → length (f k) ≡ ℓ)
+      → (k : ℕ) → k < m → part (k * ℓ) ℓ (flat m f) ≡ f k
+  part-flat m ℓ f h k k<m =
+      ap (λ (x : ℕ). part x ℓ (flat m f)) (sym (add-zero (k * ℓ)))
+      ∙ part-in-flat m ℓ f h k 0 ℓ k<m (le-of-eq (zero-add ℓ))
+      ∙ take-all ℓ (f k) (le-of-eq (h k k<m))
 
   -- the pieces of a part of a list make it up
   pub flat-parts : (m ℓ at : ℕ) (l : List A) → flat m (λ k. part (at + k * ℓ) ℓ l) ≡ part at (m * ℓ) l

@@ -13,7 +13,7 @@ use Rattle.history.proofs.Laws.{own, Ends}
 use Rattle.rules.specs.Loops.{_and_, index}
 use Rattle.rules.specs.Pile.{Side, draw, tip, other, Pile}
 use Rattle.rules.specs.Acts.{Kind, spend, give, Act, sameSide, acted}
-use Rattle.rules.proofs.Tests.{decided, and-comm, and-swap, and-false}
+use Rattle.rules.proofs.Tests.{decided, and-comm, and-swap, and-false, and-left-fails, and-right-fails}
 use Rattle.rules.proofs.Body.{Agree}
 use Rattle.rules.proofs.AfterAct.{actedAt}
 
@@ -67,15 +67,11 @@ module _ (t : Act → Bool) (d : ℕ) (a : Act) (es : List (ℕ × Act)) (i x : 
   tally-named named e = ap (λ (b : Bool). cond b (before + a .amount) before) e ∙ tally-entered
 
   tally-kept : t a ≡ false → before ≡ x + added t (own i ((d, a) ∷ es))
-  tally-kept e = tally-named false (sym (ap (λ (b : Bool). eqb i d and b) e ∙ and-false (eqb i d)))
+  tally-kept e = tally-named false (sym (and-right-fails (eqb i d) e))
 
 named : {b : Bool} → b ≡ true → (c : Bool) → c ≡ b and c
 unfolding _and_
 named e c = ap (λ (b : Bool). b and c) (sym e)
-
-not-named : {b : Bool} → b ≡ false → (c : Bool) → b and c ≡ false
-unfolding _and_
-not-named e c = ap (λ (b : Bool). b and c) e
 
 -- where a pile number stands in the contents
 abbrev pub at : ℕ → (ℕ → ℕ) → ℕ → ℕ
@@ -136,8 +132,8 @@ module _ (p : ℕ) (numbers : ℕ → ℕ) (start : ℕ → Pile) where
         floor = refl;
         top = refl;
         share = λ s i l. refl;
-        earned = λ s i l. tally-kept _ d _ es i _ (not-named e (earns kind s));
-        give = λ s i j l m. tally-kept _ d _ es i _ (not-named e (gives kind s j));
+        earned = λ s i l. tally-kept _ d _ es i _ (and-left-fails e (earns kind s));
+        give = λ s i j l m. tally-kept _ d _ es i _ (and-left-fails e (gives kind s j));
       }
 
   pub grown-acted : (n d : ℕ) (a : Act) (es : List (ℕ × Act)) (k : ℕ)

@@ -22,3 +22,7 @@ pub mod Grown
 pub mod Runs
 pub mod Monotone
 pub mod EqualBooks
+pub mod RowBytes
+pub mod MergeRow
+pub mod Merge
+pub mod BookLaws

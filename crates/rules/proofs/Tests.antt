@@ -7,7 +7,7 @@ use mathlib.Core.Logic.{_⊎_, inl, inr, ⊎-elim, _≢_}
 use mathlib.Core.Bool.{Bool, true, false, cond, not, true≢false, false≢true}
 use lib.Dec.{eqb}
 use borrow.Author.Tests.{eq-eqb, ne-eqb, not-true, not-false}
-use Rattle.rules.specs.Loops.{_and_, _or_, every}
+use Rattle.rules.specs.Loops.{_and_, _or_, every, some}
 use Rattle.rules.specs.Refusals.{_when_, _orElse_, first, done}
 
 -- a Bool is one or the other
@@ -38,6 +38,14 @@ pub and-false : (a : Bool) → a and false ≡ false
 unfolding _and_
 and-false true = refl
 and-false false = refl
+
+-- one that fails is enough
+pub and-left-fails : {a : Bool} → a ≡ false → (b : Bool) → a and b ≡ false
+unfolding _and_
+and-left-fails e b = ap (λ (a : Bool). a and b) e
+
+pub and-right-fails : (a : Bool) {b : Bool} → b ≡ false → a and b ≡ false
+and-right-fails a e = ap (λ (b : Bool). a and b) e ∙ and-false a
 
 pub and-swap : (a b c : Bool) → a and b and c ≡ b and a and c
 unfolding _and_
@@ -100,6 +108,11 @@ every-fails (suc n) t e = ⊎-elim here (λ f. below (every-fails n t f)) (decid
 
     below : (k : ℕ) × (k < n) × (t k ≡ false) → (k : ℕ) × (k < suc n) × (t k ≡ false)
     below w = (w .0, le-step (w .1), w .2)
+
+pub some-at : (n : ℕ) (t : ℕ → Bool) (k : ℕ) → k < n → t k ≡ true → some n t ≡ true
+unfolding some
+some-at n t k l e =
+    ⊎-elim (λ a. absurd (true≢false (sym e ∙ not-true (t k) (every-at n _ a k l)))) (λ a. ap not a) (decided (every n (λ k. not (t k))))
 
 -- a line of the table that is not met, and the lines after it
 pub when-done : (number : ℕ) (c : Bool) → suc number when c ≡ 0 → c ≡ false

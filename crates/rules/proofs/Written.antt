@@ -1,7 +1,7 @@
 -- Reading a book that was written, and writing a book that was read: the book is its head, its contents and its bodies, one after the other.
 -- Assumes nothing.
 use Prim.Native.Nat.{ℕ, zero, suc, _+_, _*_, _^_, _≤_, _<_}
-use native.Mathlib.Nat.{le-refl, le-of-eq, mul-le-mul-right, suc-mul, not-suc-le-zero, le-of-suc-le-suc}
+use native.Mathlib.Nat.{le-of-eq, zero-add, add-zero, mul-le-mul-right, suc-mul}
 use native.Mathlib.Omega.{arith}
 use mathlib.Core.Path.{_≡_, refl, ap, ap₂, sym, _∙_}
 use mathlib.Core.List.{List, [], _∷_, _++_, append-assoc}
@@ -12,7 +12,7 @@ use Rattle.rules.specs.Loops.{flat}
 use Rattle.rules.specs.Numbers.{number, bytes, part}
 use Rattle.rules.specs.Pile.{Pile}
 use Rattle.rules.specs.Layout.{bodyLength, bodyAt, bookLength, bodyView, desks, piles, pileNumber, position, pileOf, bodyBytes, entryBytes, bookBytes}
-use Rattle.rules.proofs.Flat.{flat-cong, length-flat, flat-parts, part-add, part-behind, part-flat}
+use Rattle.rules.proofs.Flat.{flat-cong, length-flat, flat-parts, part-add, part-front, part-behind, part-in-flat}
 use Rattle.rules.proofs.Bytes.{Octets, length-bytes, number-front, number-append, number-flat, number-bytes, bytes-number}
 use Rattle.rules.proofs.Body.{Agree, Fits, Fits4, length-body, read-body, write-body}
 use Rattle.rules.proofs.Congruence.{body-cong}
@@ -37,17 +37,32 @@ module _ (n p : ℕ) (numbers : ℕ → ℕ) (pile : ℕ → Pile) where
         length-flat p (bodyLength n) (λ k. bodyBytes n (pile k)) (λ k _. length-body n (pile k)),
       )
 
-  -- where body k stands
-  body-part : (k : ℕ) → k < p → part (bodyAt n p k) (bodyLength n) (bookBytes n p numbers pile) ≡ bodyBytes n (pile k)
+  -- all before the bodies
+  pub front-part : part 0 (bodyAt n p 0) (bookBytes n p numbers pile) ≡ (1 ∷ n ∷ p ∷ 0 ∷ []) ++ flat p (entryBytes n p numbers)
   unfolding bookBytes bodyAt
-  body-part k l =
+  front-part =
+      let contents = flat p (entryBytes n p numbers) in
+      part-front 0 (bodyAt n p 0) (1 ∷ n ∷ p ∷ 0 ∷ contents) (flat p (λ k. bodyBytes n (pile k))) (omega (arith, length-contents))
+      ∙ take-all (bodyAt n p 0) (1 ∷ n ∷ p ∷ 0 ∷ contents) (omega (arith, length-contents))
+
+  -- a part of body k, and the whole body
+  pub part-of-body : (k c m : ℕ) → k < p → c + m ≤ bodyLength n
+      → part (bodyAt n p k + c) m (bookBytes n p numbers pile) ≡ part c m (bodyBytes n (pile k))
+  unfolding bookBytes bodyAt
+  part-of-body k c m l fits =
       let contents = flat p (entryBytes n p numbers) in
       let bodies = flat p (λ k. bodyBytes n (pile k)) in
-      let at : 4 + p * 6 + k * bodyLength n ≡ 4 + (length contents + k * bodyLength n) = omega (arith, length-contents) in
-      ap (λ (m : ℕ). part m (bodyLength n) (bookBytes n p numbers pile)) at
-      ∙ part-behind (length contents + k * bodyLength n) (bodyLength n) (1 ∷ n ∷ p ∷ 0 ∷ []) (contents ++ bodies)
-      ∙ part-behind (k * bodyLength n) (bodyLength n) contents bodies
-      ∙ part-flat p (bodyLength n) (λ k. bodyBytes n (pile k)) (λ k _. length-body n (pile k)) k l
+      let at : 4 + p * 6 + k * bodyLength n + c ≡ 4 + (length contents + (k * bodyLength n + c)) = omega (arith, length-contents) in
+      ap (λ (at : ℕ). part at m (bookBytes n p numbers pile)) at
+      ∙ part-behind (length contents + (k * bodyLength n + c)) m (1 ∷ n ∷ p ∷ 0 ∷ []) (contents ++ bodies)
+      ∙ part-behind (k * bodyLength n + c) m contents bodies
+      ∙ part-in-flat p (bodyLength n) (λ k. bodyBytes n (pile k)) (λ k _. length-body n (pile k)) k c m l fits
+
+  body-part : (k : ℕ) → k < p → part (bodyAt n p k) (bodyLength n) (bookBytes n p numbers pile) ≡ bodyBytes n (pile k)
+  body-part k l =
+      ap (λ (at : ℕ). part at (bodyLength n) (bookBytes n p numbers pile)) (sym (add-zero (bodyAt n p k)))
+      ∙ part-of-body k 0 (bodyLength n) l (le-of-eq (zero-add (bodyLength n)))
+      ∙ take-all (bodyLength n) (bodyBytes n (pile k)) (le-of-eq (length-body n (pile k)))
 
   -- a number of entry k
   entry-number : (w k c : ℕ) → k < p → c + w ≤ 6 → number w (bookBytes n p numbers pile) (4 + (k * 6 + c)) ≡ number w (entryBytes n p numbers k) c
