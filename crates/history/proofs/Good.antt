@@ -13,7 +13,8 @@ use borrow.Author.Tests.{eqb-true}
 use Rattle.history.specs.Replica.{Replica, Call, act, take, Valid}
 use Rattle.history.specs.Books.{at}
 use Rattle.history.specs.Ledger.{Acts, gained, joined, entered, ledger}
-use Rattle.history.proofs.Sets.{_⊆_, left, right, or-split}
+use Rattle.history.specs.Guarantees.{_⊆_}
+use Rattle.history.proofs.Sets.{left, right, or-split}
 use Rattle.history.proofs.Moments.{History, latest, Fits, after, by-answer}
 
 module _ (R : Replica) (n : ℕ) (start : R .State) where

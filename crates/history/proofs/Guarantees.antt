@@ -7,29 +7,29 @@ use native.Mathlib.Omega.{arith}
 use mathlib.Core.Path.{_≡_, refl, sym, _∙_, ap, fun-ext}
 use mathlib.Core.Logic.{_≢_, ⊎-elim, by-cases}
 use mathlib.Core.Bool.{true}
-use mathlib.Core.List.{List, [], _∷_, _++_, List·Memᴰ, List·Memᴰ·head, List·Memᴰ·tail}
+use mathlib.Core.List.{[], _∷_, _++_, List·Memᴰ, List·Memᴰ·head, List·Memᴰ·tail}
 use lib.ListN.{length, length-append}
 use lib.Dec.{eqb}
 use borrow.Author.Tests.{eq-eqb}
 use Rattle.history.specs.Replica.{Replica, Call, act, take, Valid}
-use Rattle.history.specs.Books.{at, books}
+use Rattle.history.specs.Books.{at}
 use Rattle.history.specs.Ledger.{Acts, lone, ledger}
+use Rattle.history.specs.Guarantees.{_⊆_, OnlyTakes, MonotonicReads, ReadYourWrites, WritesFollowReads, MonotonicWrites, Convergence, Guarantees}
 use Rattle.history.proofs.Laws.{Laws}
-use Rattle.history.proofs.Sets.{_⊆_, right, or-split, same, cases}
+use Rattle.history.proofs.Sets.{right, or-split, same, cases}
 use Rattle.history.proofs.Moments.{History, latest, past, late, next, grows, newest}
 use Rattle.history.proofs.Good.{MayHave, Good, more, valid-before, ledger-sound}
 use Rattle.history.proofs.Sequential.{sequential}
 
 module _ (R : Replica) (start : R .State) where
-  -- monotonic reads: a desk's set never shrinks
-  pub monotonic-reads : (h : History R) (m m′ i : ℕ) → m ≤ m′ → ledger R start h m i ⊆ ledger R start h m′ i
+  reads : MonotonicReads R start
   unfolding ledger at
-  monotonic-reads [] m m′ i l q p = p
-  monotonic-reads (c ∷ h) m m′ i l q p =
+  reads [] m m′ i l q p = p
+  reads (c ∷ h) m m′ i l q p =
       by-cases (decLe m′ (length h))
-      (λ b. rw (past R start c h m′ i b) (monotonic-reads h m m′ i l q (rw (past R start c h m i (omega arith)) at p)))
+      (λ b. rw (past R start c h m′ i b) (reads h m m′ i l q (rw (past R start c h m i (omega arith)) at p)))
       (λ b. rw (late R start c h m′ i (omega arith)) (by-cases (decLe m (length h))
-      (λ k. grows R start c h i q (monotonic-reads h m (length h) i k q (rw (past R start c h m i k) at p)))
+      (λ k. grows R start c h i q (reads h m (length h) i k q (rw (past R start c h m i k) at p)))
       (λ k. rw (late R start c h m i (omega arith)) at p)))
 
   before : (f h : History R) (m i : ℕ) → m ≤ length h → ledger R start (f ++ h) m i ≡ ledger R start h m i
@@ -38,7 +38,7 @@ module _ (R : Replica) (start : R .State) where
 
   -- what a desk had after h, it has at each later moment
   stays : (f h : History R) {m : ℕ} (i : ℕ) → length h ≤ m → latest R start h i ⊆ ledger R start (f ++ h) m i
-  stays f h {m} i l q p = monotonic-reads (f ++ h) (length h) m i l q (rw (before f h (length h) i (le-refl _)) p)
+  stays f h {m} i l q p = reads (f ++ h) (length h) m i l q (rw (before f h (length h) i (le-refl _)) p)
 
   -- what desk j had after h, desk i has when it has taken a later copy of j's
   heard : {f : History R} (h : History R) (i j m : ℕ) → length h ≤ m → List·Memᴰ (take i j m) f
@@ -53,35 +53,20 @@ module _ {R : Replica} {n : ℕ} {start : R .State} where
   had c [] h (more g G) = g
   had c (x ∷ f) h (more g G) = had c f h G
 
-abbrev pub OnlyTakes : {Act : Type 0} → List (Call Act) → Type 0
-OnlyTakes [] = Unit {0}
-OnlyTakes (act d a ∷ ts) = ⊥
-OnlyTakes (take d e m ∷ ts) = OnlyTakes ts
-
 module _ {R : Replica} {n : ℕ} {Within : R .State → Type 0} {start : R .State} (laws : Laws R n Within start) where
-  -- read your writes: an act that its desk's book accepts is in the desk's set from then on
-  pub read-your-writes : (f h : History R) (d : ℕ) (a : R .Act) → Valid n (f ++ (act d a ∷ h))
-      → R .actAnswer d a (books R start h (length h) d) ≡ 0
-      → (m : ℕ) → length h < m → ledger R start (f ++ (act d a ∷ h)) m d (length h) ≡ true
-  read-your-writes f h d a v p m l =
+  your-writes : ReadYourWrites R n start
+  your-writes f h d a v p m l =
       stays R start f (act d a ∷ h) d l (length h) (newest R start h a d d (eq-eqb d d refl)
       (rw (sequential laws h (valid-before n f (act d a ∷ h) v .1) (length h) d) at p))
 
-  -- writes follow reads: a set with an act has all that the act's desk held when it entered it
-  pub writes-follow-reads : (f h : History R) (d : ℕ) (a : R .Act) → Valid n (f ++ (act d a ∷ h))
-      → (m i : ℕ) → ledger R start (f ++ (act d a ∷ h)) m i (length h) ≡ true
-      → ledger R start h (length h) d ⊆ ledger R start (f ++ (act d a ∷ h)) m i
-  writes-follow-reads f h d a v m i p = had (act d a) f h (ledger-sound R n start (f ++ (act d a ∷ h)) v m i .good) p .held
+  follow-reads : WritesFollowReads R n start
+  follow-reads f h d a v m i p = had (act d a) f h (ledger-sound R n start (f ++ (act d a ∷ h)) v m i .good) p .held
 
-  -- monotonic writes: a set with an act has each act that its desk entered before it
-  pub monotonic-writes : (f g h : History R) (d : ℕ) (a b : R .Act) → Valid n (f ++ (act d a ∷ (g ++ (act d b ∷ h))))
-      → R .actAnswer d b (books R start h (length h) d) ≡ 0
-      → (m i : ℕ) → ledger R start (f ++ (act d a ∷ (g ++ (act d b ∷ h)))) m i (length (g ++ (act d b ∷ h))) ≡ true
-      → ledger R start (f ++ (act d a ∷ (g ++ (act d b ∷ h)))) m i (length h) ≡ true
-  monotonic-writes f g h d a b v p m i x =
+  writes : MonotonicWrites R n start
+  writes f g h d a b v p m i x =
       let w = g ++ (act d b ∷ h) in
-      writes-follow-reads f w d a v m i x (length h)
-      (read-your-writes g h d b (valid-before n f (act d a ∷ w) v .1) p (length w) (simp length-append (omega arith)))
+      follow-reads f w d a v m i x (length h)
+      (your-writes g h d b (valid-before n f (act d a ∷ w) v .1) p (length w) (simp length-append (omega arith)))
 
   -- takes bring no act that some desk did not have
   origin : (ts h : History R) → OnlyTakes ts → Valid n (ts ++ h) → (i q : ℕ) → i < n → latest R start (ts ++ h) i q ≡ true
@@ -91,11 +76,10 @@ module _ {R : Replica} {n : ℕ} {Within : R .State → Type 0} {start : R .Stat
       let from = origin ts h o (v .3) in
       let g = ts ++ h in
       cases (λ (S : Acts). S q ≡ true → (k : ℕ) × (k < n) × (latest R start h k q ≡ true)) (eqb i d)
-      (λ _ x. ⊎-elim (from d q (v .0)) (λ y. from e q (v .1) (monotonic-reads R start g m (length g) e (v .2) q y))
+      (λ _ x. ⊎-elim (from d q (v .0)) (λ y. from e q (v .1) (reads R start g m (length g) e (v .2) q y))
       (or-split (latest R start g d q) x))
       (λ _. from i q l) (rw next at p)
 
-  -- convergence: where only takes follow h, and by them each desk takes a copy that each other made after h, all books are equal
   module _ (ts h : History R) (only : OnlyTakes ts) (v : Valid n (ts ++ h))
       (all : (i j : ℕ) → i < n → j < n → i ≢ j → (m : ℕ) × (length h ≤ m) × List·Memᴰ (take i j m) ts) where
     spread : (i j : ℕ) → i < n → j < n → latest R start (ts ++ h) i ⊆ latest R start (ts ++ h) j
@@ -104,8 +88,17 @@ module _ {R : Replica} {n : ℕ} {Within : R .State → Type 0} {start : R .Stat
         by-cases (ℕ-discrete j k) (λ e. stays R start ts h j (simp length-append (omega arith)) q (rw e x))
         (λ e. let t = all j k l′ b e in heard R start h j k (t .0) (t .1) (t .2) q x)
 
-    pub converged : (i j : ℕ) → i < n → j < n
-        → books R start (ts ++ h) (length (ts ++ h)) i ≡ books R start (ts ++ h) (length (ts ++ h)) j
-    converged i j l l′ =
-        let p = sequential laws (ts ++ h) v (length (ts ++ h)) in
-        p i ∙ ap (lone R start (ts ++ h)) (fun-ext (λ q. same _ _ (spread i j l l′ q) (spread j i l′ l q))) ∙ sym (p j)
+  converged : Convergence R n start
+  converged ts h only v all i j l l′ =
+      let p = sequential laws (ts ++ h) v (length (ts ++ h)) in
+      p i ∙ ap (lone R start (ts ++ h)) (fun-ext (λ q. same _ _ (spread ts h only v all i j l l′ q) (spread ts h only v all j i l′ l q))) ∙ sym (p j)
+
+  pub guarantees : Guarantees R n start
+  guarantees =
+      record {
+        monotonic-reads = reads R start;
+        read-your-writes = your-writes;
+        writes-follow-reads = follow-reads;
+        monotonic-writes = writes;
+        convergence = converged;
+      }

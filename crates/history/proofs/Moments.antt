@@ -11,7 +11,8 @@ use borrow.Author.Tests.{le-leb, lt-leb, eq-eqb, eqb-true, eqb-false}
 use Rattle.history.specs.Replica.{Replica, Call, act, take, caller}
 use Rattle.history.specs.Books.{at, called, books}
 use Rattle.history.specs.Ledger.{Acts, joined, lone, entered, ledger}
-use Rattle.history.proofs.Sets.{_⊆_, left, right, cases, arms}
+use Rattle.history.specs.Guarantees.{_⊆_}
+use Rattle.history.proofs.Sets.{left, right, cases, arms}
 
 abbrev pub History : Replica → Type 0
 History R = List (Call (R .Act))

@@ -1,14 +1,10 @@
 -- Sets of acts, compared by their members: each fact is by the cases of a test.
 -- Assumes nothing.
-use Prim.Native.Nat.{ℕ}
 use mathlib.Core.Path.{_≡_, refl, sym}
 use mathlib.Core.Logic.{_⊎_, inl, inr}
 use mathlib.Core.Bool.{Bool, true, false, cond, _||_, false≢true, or-true}
 use Rattle.history.specs.Ledger.{Acts, gained}
-
-infix 4 _⊆_
-abbrev pub _⊆_ : Acts → Acts → Type 0
-S ⊆ T = (q : ℕ) → S q ≡ true → T q ≡ true
+use Rattle.history.specs.Guarantees.{_⊆_}
 
 -- `joined new S` is `gained` of a single place and S: `right` speaks of both
 pub left : (S T : Acts) → S ⊆ gained S T

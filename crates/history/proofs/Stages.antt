@@ -11,8 +11,9 @@ use lib.ListN.{length}
 use borrow.Author.Tests.{eqb-true, eqb-false}
 use Rattle.history.specs.Replica.{Replica, act, take}
 use Rattle.history.specs.Ledger.{Acts, gained}
+use Rattle.history.specs.Guarantees.{_⊆_}
 use Rattle.history.proofs.Laws.{Ends, Longer}
-use Rattle.history.proofs.Sets.{_⊆_, left, right, same}
+use Rattle.history.proofs.Sets.{left, right, same}
 use Rattle.history.proofs.Tails.{ends-put, either-put, put-back}
 use Rattle.history.proofs.Moments.{History, latest, grows, newest}
 use Rattle.history.proofs.Entries.{entries, kept, by-desk}

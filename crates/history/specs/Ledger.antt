@@ -2,7 +2,7 @@
 -- The ledger knows the starting state and the calls' arguments, and never a desk's state.
 -- Assumes nothing.
 use Prim.Native.Nat.{ℕ}
-use mathlib.Core.Bool.{Bool, true, false, cond, _||_}
+use mathlib.Core.Bool.{Bool, false, cond, _||_}
 use mathlib.Core.List.{List, [], _∷_}
 use lib.ListN.{length}
 use lib.Dec.{eqb}
@@ -34,7 +34,8 @@ module _ (R : Replica) (start : R .State) where
   lone [] S = start
   lone (c ∷ h) S = cond (S (length h)) (enter c (lone h S)) (lone h S)
 
-  -- What a call does to its desk's set. An act joins where the lone dispatcher, with what the desk holds, is not refused it.
+  -- What a call does to its desk's set.
+  -- An act joins where the lone dispatcher, with what the desk holds, is not refused it.
   abbrev pub entered : List (Call (R .Act)) → Call (R .Act) → (ℕ → ℕ → Acts) → Acts
   entered h (act d a) known =
       cond (eqb (R .actAnswer d a (lone h (known (length h) d))) 0) (joined (length h) (known (length h) d)) (known (length h) d)

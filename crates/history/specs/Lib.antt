@@ -2,3 +2,4 @@ pub mod Replica
 pub mod Books
 pub mod Ledger
 pub mod Claim
+pub mod Guarantees

@@ -1,21 +1,21 @@
 -- What an accepted act does to each right of each desk, and that it keeps a pile lawful. It adds to one tally, which is
 -- one desk's debit and at most one desk's credit.
 -- Assumes nothing.
-use Prim.Native.Nat.{ℕ, _+_, _-_, _≤_, _<_}
+use Prim.Native.Nat.{ℕ, _+_, _≤_, _<_}
 use native.Mathlib.Omega.{arith}
 use native.Mathlib.Nat.{add-zero, pos-of-ne-zero, ne-of-gt}
-use mathlib.Core.Path.{_≡_, refl, ap, ap₂, sym, _∙_}
+use mathlib.Core.Path.{_≡_, refl, ap, sym, _∙_}
 use mathlib.Core.Logic.{_≢_}
 use mathlib.Core.Bool.{Bool, true, false, cond, not, false≢true}
 use lib.Dec.{eqb, ltb}
 use borrow.Author.Tests.{eqb-true, eqb-false, ltb-true, ltb-false, not-false, lt-ltb, le-ltb, ne-eqb}
-use Rattle.rules.specs.Loops.{_and_, _or_, sum}
+use Rattle.rules.specs.Loops.{_and_, sum}
 use Rattle.rules.specs.Refusals.{_when_, _orElse_}
-use Rattle.rules.specs.Pile.{Side, draw, tip, other, Pile, credit, debit, rights, pileAnswer, tallyLimit, amountLimit}
+use Rattle.rules.specs.Pile.{Side, draw, tip, other, Pile, credit, debit, rights, tallyLimit, amountLimit}
 use Rattle.rules.specs.Acts.{Kind, spend, give, side, tally, sameSide, receiverWrong, actRefusal, acted}
 use Rattle.rules.proofs.Sums.{sum-cong, sum-add, sum-at, sum-zero}
 use Rattle.rules.proofs.Tests.{and-true, and-false, and-swap, and-last, and-left, and-right, or-left, or-right, or-neither, when-done, orElse-first, orElse-rest}
-use Rattle.rules.proofs.Facts.{PileFacts, OpeningFacts, facts, passes}
+use Rattle.rules.proofs.Facts.{PileFacts}
 
 -- t where the test holds, and otherwise nothing
 abbrev pub part-of : Bool → ℕ → ℕ

@@ -1,31 +1,27 @@
 -- The book after an accepted act is the book with that one pile's act entered, written anew: one number was put, and all others stand apart from it.
 -- Assumes nothing.
-use Prim.Native.Nat.{ℕ, zero, suc, _+_, _*_, _^_, _≤_, _<_, suc-le-suc}
-use native.Mathlib.Nat.{le-refl, le-of-suc-le-suc, zero-lt-suc, mul-le-mul-right, suc-mul, suc-inj}
+use Prim.Native.Nat.{ℕ, zero, suc, _+_, _≤_, _<_, suc-le-suc}
+use native.Mathlib.Nat.{le-refl, suc-inj}
 use native.Mathlib.Numerals.{lt-of-le-of-ne}
 use native.Mathlib.Omega.{arith}
-use mathlib.Core.Path.{_≡_, refl, ap, ap₂, sym, subst, _∙_}
+use mathlib.Core.Path.{_≡_, refl, sym, _∙_}
 use mathlib.Core.Logic.{_⊎_, inl, inr, ⊎-elim, ⊎-map, _≢_}
-use mathlib.Core.Bool.{Bool, true, false, cond, not, true≢false, false≢true}
-use mathlib.Core.List.{List, [], _∷_}
-use lib.ListN.{length, getD}
-use lib.Dec.{eqb, ltb}
-use lib.Seq.{sets, length-sets}
-use borrow.Author.Tests.{eqb-true, eqb-false, eq-eqb, ne-eqb, ltb-true}
+use mathlib.Core.Bool.{Bool, true, false, cond, true≢false}
+use mathlib.Core.List.{List}
+use lib.Dec.{eqb}
+use borrow.Author.Tests.{eqb-true, eqb-false, ltb-true}
 use Rattle.rules.specs.Loops.{_and_, index}
-use Rattle.rules.specs.Numbers.{number, bytes}
-use Rattle.rules.specs.Pile.{Side, draw, tip, other, Pile, tallyLimit}
-use Rattle.rules.specs.Acts.{Kind, spend, give, Act, tally, sameSide, actRefusal, acted}
-use Rattle.rules.specs.Layout.{bodyLength, bodyAt, bookLength, cellAt, column, earnedColumn, actColumn, view, bodyView, desks, piles, pileNumber, position, pileOf, bookBytes}
+use Rattle.rules.specs.Pile.{Side, draw, tip, other, Pile}
+use Rattle.rules.specs.Acts.{Kind, spend, give, Act, tally, sameSide, acted}
+use Rattle.rules.specs.Layout.{bodyAt, column, earnedColumn, actColumn, bodyView, desks, piles, pileNumber, pileOf, bookBytes}
 use Rattle.rules.specs.Book.{bookAnswer, place, absent, deskAnswer, actAnswer, tallyAt, afterAct}
-use Rattle.rules.proofs.Tests.{decided, and-left, and-right, and-fails, every-at, when-done, when-not-done, when-accepted, orElse-first, orElse-rest}
-use Rattle.rules.proofs.Facts.{PileFacts, facts, passes}
+use Rattle.rules.proofs.Tests.{and-fails, when-done, when-not-done, when-accepted, orElse-first, orElse-rest}
+use Rattle.rules.proofs.Facts.{PileFacts, facts}
 use Rattle.rules.proofs.Acted.{Receives, ActFacts, act-facts, facts-acted, here, there}
-use Rattle.rules.proofs.Bytes.{Octets, length-bytes, octets-bytes}
+use Rattle.rules.proofs.Bytes.{Octets}
 use Rattle.rules.proofs.Body.{Agree, column-below}
-use Rattle.rules.proofs.Congruence.{facts-cong, agree-sym, book-cong}
-use Rattle.rules.proofs.Readable.{BookFacts, book-facts}
-use Rattle.rules.proofs.PutCell.{spot, putCell, Puts, put-cell, put-pile, put-beside, put-written}
+use Rattle.rules.proofs.Readable.{book-facts}
+use Rattle.rules.proofs.PutCell.{putCell, Puts, put-cell, put-pile, put-beside, put-written}
 
 index-most : (n : ℕ) (t : ℕ → Bool) → index n t ≤ n
 unfolding index

@@ -1,22 +1,21 @@
 -- Reading a body that was written, and writing a body that was read. Both go row by row: a row is its 2(n + 1) numbers in column order.
 -- Assumes nothing.
 use Prim.Native.Nat.{ℕ, zero, suc, _+_, _-_, _*_, _^_, _≤_, _<_, suc-le-suc}
-use native.Mathlib.Nat.{le-refl, le-trans, le-of-lt, lt-of-le-of-lt, zero-lt-suc, suc-mul, add-assoc, mul-le-mul-right}
+use native.Mathlib.Nat.{zero-lt-suc, suc-mul, add-assoc, mul-le-mul-right}
 use native.Mathlib.Decide.{decLt}
 use native.Mathlib.Omega.{arith}
-use mathlib.Core.Path.{_≡_, refl, ap, ap₂, sym, subst, _∙_}
+use mathlib.Core.Path.{_≡_, refl, ap, sym, subst, _∙_}
 use mathlib.Core.Logic.{by-cases}
 use mathlib.Core.List.{List, [], _∷_, _++_}
 use lib.ListN.{length, getD, length-append, List·getD-append}
 use lib.Seq.{getD-append-add}
-use lib.Dec.{lit<, lit≤}
-use Rattle.rules.specs.Loops.{sum, flat, list}
+use Rattle.rules.specs.Loops.{flat, list}
 use Rattle.rules.specs.Numbers.{number, encode, part}
-use Rattle.rules.specs.Pile.{Side, draw, tip, Pile, tallyLimit}
+use Rattle.rules.specs.Pile.{Side, draw, tip, Pile}
 use Rattle.rules.specs.Layout.{rowLength, bodyLength, cellAt, column, earnedColumn, view, bodyView, rowOf, bodyRow, bodyBytes}
 use Rattle.rules.proofs.Sums.{term-le}
-use Rattle.rules.proofs.Flat.{length-flat, flat-cong, flat-parts, part-add, part-front, part-behind, part-flat, length-list, getD-list, list-cong, list-add}
-use Rattle.rules.proofs.Bytes.{Octets, number-part, number-front, number-append, number-flat, length-encode, number-encode, encode-numbers}
+use Rattle.rules.proofs.Flat.{length-flat, flat-cong, flat-parts, length-list, getD-list, list-cong, list-add}
+use Rattle.rules.proofs.Bytes.{Octets, number-part, number-flat, length-encode, number-encode, encode-numbers}
 use Rattle.rules.proofs.Facts.{PileFacts, OpeningFacts}
 
 -- two piles have the same numbers, as far as n desks go

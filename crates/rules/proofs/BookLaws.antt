@@ -1,23 +1,24 @@
 -- The five laws of the book, and so demand 3: a desk's row depends on that desk's own acts alone, and grows with each.
 -- Assumes nothing.
-use Prim.Native.Nat.{ℕ, suc, _+_, _≤_, _<_}
+use Prim.Native.Nat.{ℕ, suc, _+_, _<_}
 use native.Mathlib.Nat.{le-refl, add-le-add}
-use mathlib.Core.Path.{_≡_, refl, ap, ap₂, sym, subst, _∙_}
-use mathlib.Core.Logic.{_⊎_, ⊎-map}
+use mathlib.Core.Path.{_≡_, refl, ap, ap₂, sym, _∙_}
+use mathlib.Core.Logic.{⊎-map}
 use mathlib.Core.List.{List}
-use Rattle.history.specs.Claim.{Demand3}
 use Rattle.history.proofs.Laws.{own, Ends, Longer, run, Entered, Laws}
+use Rattle.history.specs.Guarantees.{Guarantees}
 use Rattle.history.proofs.Demand.{demand3}
+use Rattle.history.proofs.Guarantees.{guarantees}
 use Rattle.rules.specs.Pile.{draw, tip, Pile}
 use Rattle.rules.specs.Acts.{Act}
-use Rattle.rules.specs.Layout.{desks, piles, pileOf, rowOf, bodyRow, bookLength, bookBytes}
+use Rattle.rules.specs.Layout.{desks, pileOf, rowOf, bodyRow, bookLength, bookBytes}
 use Rattle.rules.specs.Opening.{given, givenPile, openingAnswer, opened}
 use Rattle.rules.specs.Book.{bookAnswer}
 use Rattle.rules.specs.Take.{takeAnswer, afterTake}
 use Rattle.rules.specs.Demand.{book, Within, BookDemand3}
 use Rattle.rules.proofs.Facts.{facts}
 use Rattle.rules.proofs.Tonnage.{tonnage-within}
-use Rattle.rules.proofs.Readable.{BookFacts, book-facts}
+use Rattle.rules.proofs.Readable.{book-facts}
 use Rattle.rules.proofs.Refused.{act-refused}
 use Rattle.rules.proofs.LawfulBook.{Frame, written-readable}
 use Rattle.rules.proofs.Grown.{added, added-ends, earnsAt, givesAt, grown}
@@ -97,10 +98,17 @@ module _ (n p : ℕ) (numbers : ℕ → ℕ) (frame : Frame n p numbers) (start 
         bounds = bounds;
       }
 
+-- an opened book keeps the five laws
+pub opened-laws : (n p : ℕ) (l : List ℕ) → openingAnswer n p l (bookLength n p) ≡ 0 → Laws book n Within (opened n p l)
+unfolding opened
+opened-laws n p l accepted =
+    book-laws n p (λ k. given n l k 0) (opened-frame n p l (bookLength n p) accepted) (givenPile n l)
+    (opened-lawful n p l (bookLength n p) accepted)
+
 -- Demand 3: for every book that an accepted opening writes, and every list of calls of its desks
 pub book-demand3 : BookDemand3
-unfolding opened
-book-demand3 n p l accepted =
-    demand3 book n Within (opened n p l)
-    (book-laws n p (λ k. given n l k 0) (opened-frame n p l (bookLength n p) accepted) (givenPile n l)
-    (opened-lawful n p l (bookLength n p) accepted))
+book-demand3 n p l accepted = demand3 book n Within (opened n p l) (opened-laws n p l accepted)
+
+-- and so the session guarantees, and convergence
+pub book-guarantees : (n p : ℕ) (l : List ℕ) → openingAnswer n p l (bookLength n p) ≡ 0 → Guarantees book n (opened n p l)
+book-guarantees n p l accepted = guarantees (opened-laws n p l accepted)

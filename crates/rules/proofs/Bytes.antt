@@ -7,7 +7,7 @@ use mathlib.Core.Path.{_≡_, refl, ap, ap₂, sym, subst, _∙_}
 use mathlib.Core.List.{List, [], _∷_, _++_, append-assoc, append-nil}
 use lib.ListN.{length, getD, take, drop, length-append, List·getD-append}
 use lib.Dec.{lit<}
-use lib.Seq.{getD-append-add, getD-take, getD-drop, drop-cons, take-nil}
+use lib.Seq.{getD-append-add, getD-take, getD-drop, drop-cons}
 use Rattle.rules.specs.Loops.{flat, list}
 use Rattle.rules.specs.Numbers.{number, bytes, encode, part}
 use Rattle.rules.proofs.Flat.{flat-cong, flat-parts, getD-flat}

@@ -1,12 +1,12 @@
 -- Cases a to j of document 01 as one table under one theorem, on the bytes of F and G.
 -- Assumes nothing.
-use Prim.Native.Nat.{ℕ, zero, suc}
+use Prim.Native.Nat.{ℕ}
 use mathlib.Core.Path.{_≡_, refl}
 use mathlib.Core.List.{List, [], _∷_, _++_}
 use Rattle.rules.specs.Loops.{_and_, _or_, between, sum, every, some, index, flat, list}
 use Rattle.rules.specs.Refusals.{_when_, _orElse_, first, done, Reply, refused, value, reply}
 use Rattle.rules.specs.Numbers.{number, bytes, encode}
-use Rattle.rules.specs.Pile.{Side, draw, tip, bothSides, credit, debit, rights, lawful, tonnage, openingLawful, talliesLawful, pileAnswer, sameOpening}
+use Rattle.rules.specs.Pile.{draw, tip, bothSides, credit, debit, rights, lawful, tonnage, openingLawful, talliesLawful, pileAnswer, sameOpening}
 use Rattle.rules.specs.Acts.{Kind, spend, give, Act, actRefusal}
 use Rattle.rules.specs.Layout.{rowLength, bodyLength, bodyAt, bookLength, cellAt, pileNumber, position, pileOf, rowOf, bodyRow, bodyBytes, entryBytes, bookBytes}
 use Rattle.rules.specs.Rows.{atLeast, alike, later, split, isRowLength, laterRow}

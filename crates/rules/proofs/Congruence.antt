@@ -6,7 +6,7 @@ use mathlib.Core.Path.{_≡_, refl, ap, ap₂, sym, subst, _∙_}
 use mathlib.Core.Bool.{cond}
 use mathlib.Core.List.{List, [], _∷_, _++_}
 use lib.Dec.{eqb}
-use Rattle.rules.specs.Loops.{_and_, sum}
+use Rattle.rules.specs.Loops.{_and_}
 use Rattle.rules.specs.Numbers.{bytes, encode}
 use Rattle.rules.specs.Pile.{Side, draw, tip, other, Pile, credit, debit, rights, tallyLimit}
 use Rattle.rules.specs.Acts.{Kind, spend, give, side, tally, sameSide, acted}

@@ -1,6 +1,6 @@
 -- Equal books hold the same acts: an act more adds at least 1 to the tally that it names, and a tally can be read from the bytes.
 -- Assumes nothing.
-use Prim.Native.Nat.{ℕ, _+_, _≤_, _<_}
+use Prim.Native.Nat.{ℕ, _+_, _<_}
 use native.Mathlib.Omega.{arith}
 use mathlib.Core.Path.{_≡_, refl, ap, sym, subst, _∙_}
 use mathlib.Core.Logic.{_⊎_, ⊎-elim}
@@ -9,7 +9,6 @@ use mathlib.Core.List.{List, [], _∷_, _++_}
 use lib.Dec.{eqb}
 use borrow.Author.Tests.{eq-eqb, eqb-true}
 use Rattle.history.proofs.Laws.{own, Ends, run, Entered}
-use Rattle.rules.specs.Loops.{_and_}
 use Rattle.rules.specs.Pile.{Side, draw, tip, other, Pile}
 use Rattle.rules.specs.Acts.{Kind, spend, give, Act, tally, sameSide}
 use Rattle.rules.specs.Layout.{pileOf, bookBytes}

@@ -1,12 +1,12 @@
 -- Lists made of m pieces one after the other, and taken apart again: head, contents, bodies, rows and numbers are all such pieces.
 -- Assumes nothing.
-use Prim.Native.Nat.{ℕ, zero, suc, _+_, _*_, _-_, _≤_, _<_}
-use native.Mathlib.Nat.{le-refl, le-of-eq, le-step, not-suc-le-zero, le-of-suc-le-suc, eq-or-lt-of-le, zero-add, add-zero, zero-mul, suc-mul, suc-add, add-suc, add-assoc, mul-le-mul-right}
+use Prim.Native.Nat.{ℕ, zero, suc, _+_, _*_, _≤_, _<_}
+use native.Mathlib.Nat.{le-refl, le-of-eq, le-step, not-suc-le-zero, le-of-suc-le-suc, eq-or-lt-of-le, zero-add, add-zero, zero-mul, suc-mul, add-suc, mul-le-mul-right}
 use native.Mathlib.Omega.{arith}
 use mathlib.Core.Path.{_≡_, refl, ap, ap₂, sym, subst⁻¹, _∙_}
 use mathlib.Core.Logic.{⊎-elim}
 use mathlib.Core.List.{List, [], _∷_, _++_, append-assoc, append-nil}
-use lib.ListN.{length, getD, take, drop, length-append, length-take, length-drop, List·getD-append}
+use lib.ListN.{length, getD, take, drop, length-append, length-drop, List·getD-append}
 use lib.Seq.{take-all, take-add, drop-drop, take-append-le, drop-append-le, drop-append-add, getD-append-add}
 use Rattle.rules.specs.Loops.{flat, list}
 use Rattle.rules.specs.Numbers.{part}

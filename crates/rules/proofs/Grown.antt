@@ -1,9 +1,9 @@
 -- The piles that a list of entered acts leaves: each tally of a desk is what it was at the start and the amounts of that desk's own acts that name it.
 -- Assumes nothing.
-use Prim.Native.Nat.{ℕ, zero, suc, _+_, _≤_, _<_}
-use native.Mathlib.Nat.{add-zero, add-assoc, le-refl}
+use Prim.Native.Nat.{ℕ, _+_, _≤_}
+use native.Mathlib.Nat.{add-zero, add-assoc}
 use native.Mathlib.Omega.{arith}
-use mathlib.Core.Path.{_≡_, refl, ap, ap₂, sym, subst, _∙_}
+use mathlib.Core.Path.{_≡_, refl, ap, sym, subst, _∙_}
 use mathlib.Core.Logic.{⊎-elim}
 use mathlib.Core.Bool.{Bool, true, false, cond}
 use mathlib.Core.List.{List, [], _∷_, _++_}
@@ -11,7 +11,7 @@ use lib.Dec.{eqb}
 use borrow.Author.Tests.{eqb-true, eqb-false, eq-eqb, ne-eqb}
 use Rattle.history.proofs.Laws.{own, Ends}
 use Rattle.rules.specs.Loops.{_and_, index}
-use Rattle.rules.specs.Pile.{Side, draw, tip, other, Pile}
+use Rattle.rules.specs.Pile.{Side, other, Pile}
 use Rattle.rules.specs.Acts.{Kind, spend, give, Act, sameSide, acted}
 use Rattle.rules.proofs.Tests.{decided, and-comm, and-swap, and-false, and-left-fails, and-right-fails}
 use Rattle.rules.proofs.Body.{Agree}

@@ -1,24 +1,23 @@
 -- A book written from lawful piles under rising numbers is readable, and its bytes are bytes.
 -- Assumes nothing.
-use Prim.Native.Nat.{ℕ, zero, suc, _+_, _*_, _^_, _≤_, _<_}
-use native.Mathlib.Nat.{le-of-suc-le, lt-of-le-of-lt}
+use Prim.Native.Nat.{ℕ, zero, suc, _^_, _≤_, _<_}
+use native.Mathlib.Nat.{le-of-suc-le}
 use native.Mathlib.Omega.{arith}
-use mathlib.Core.Path.{_≡_, refl, ap, ap₂, sym, _∙_}
-use mathlib.Core.Bool.{Bool, true}
+use mathlib.Core.Path.{_≡_, refl, ap, ap₂, _∙_}
+use mathlib.Core.Bool.{true}
 use mathlib.Core.List.{List, [], _∷_, _++_}
-use lib.ListN.{length, getD}
 use lib.Dec.{lit<, ltb, leb}
 use borrow.Author.Tests.{leb-true}
-use Rattle.rules.specs.Loops.{_and_, flat, every}
+use Rattle.rules.specs.Loops.{_and_, flat}
 use Rattle.rules.specs.Numbers.{bytes, encode}
-use Rattle.rules.specs.Pile.{Pile, pileAnswer}
-use Rattle.rules.specs.Layout.{deskLimit, pileLimit, pileNumberLimit, bodyAt, bookLength, desks, piles, pileNumber, position, pileOf, bodyBytes, bodyRow, entryBytes, bookBytes}
+use Rattle.rules.specs.Pile.{Pile}
+use Rattle.rules.specs.Layout.{deskLimit, pileLimit, pileNumberLimit, bodyAt, pileNumber, pileOf, bodyBytes, bodyRow, entryBytes, bookBytes}
 use Rattle.rules.specs.Opening.{previous, rising}
 use Rattle.rules.specs.Book.{bookAnswer}
-use Rattle.rules.proofs.Tests.{and-left, and-right, every-at, every-cong}
+use Rattle.rules.proofs.Tests.{and-right, every-at, every-cong}
 use Rattle.rules.proofs.Facts.{PileFacts, passes}
 use Rattle.rules.proofs.Bytes.{Octets, octets-bytes}
-use Rattle.rules.proofs.Body.{Agree, Fits, Fits4, lawful-fits}
+use Rattle.rules.proofs.Body.{Agree, lawful-fits}
 use Rattle.rules.proofs.Congruence.{agree-sym, facts-cong}
 use Rattle.rules.proofs.Written.{length-book, read-number, read-position, read-pile}
 use Rattle.rules.proofs.Readable.{BookFacts, book-passes, lengths}

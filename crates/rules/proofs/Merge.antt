@@ -1,28 +1,23 @@
 -- A take of written books of one opening with comparable rows is accepted, and leaves the book written from the later rows.
 -- Assumes nothing.
-use Prim.Native.Nat.{ℕ, zero, suc, _+_, _*_, _≤_, _<_, suc-le-suc}
-use native.Mathlib.Nat.{le-of-eq, le-of-suc-le-suc, zero-add, add-zero, zero-mul, zero-lt-suc}
-use native.Mathlib.Omega.{arith}
-use mathlib.Core.Path.{_≡_, refl, ap, ap₂, sym, subst, _∙_}
-use mathlib.Core.Logic.{_⊎_, inl, inr, ⊎-elim, ⊎-map}
-use mathlib.Core.Bool.{Bool, true, false, cond, not}
-use mathlib.Core.List.{List, [], _∷_, _++_}
-use lib.ListN.{length}
-use lib.Dec.{eqb, ltb}
-use lib.Seq.{take-all}
+use Prim.Native.Nat.{ℕ, zero, suc, _<_, suc-le-suc}
+use native.Mathlib.Nat.{le-of-suc-le-suc}
+use mathlib.Core.Path.{_≡_, refl, ap, ap₂, sym, _∙_}
+use mathlib.Core.Logic.{_⊎_, ⊎-elim, ⊎-map}
+use mathlib.Core.Bool.{true, false, not}
+use mathlib.Core.List.{List, _++_}
+use lib.Dec.{eqb}
 use borrow.Author.Tests.{eq-eqb, lt-ltb, eqb-true}
-use Rattle.rules.specs.Loops.{_and_, flat, every}
-use Rattle.rules.specs.Refusals.{_when_, _orElse_, first}
-use Rattle.rules.specs.Numbers.{encode, part}
+use Rattle.rules.specs.Loops.{_and_}
+use Rattle.rules.specs.Numbers.{encode}
 use Rattle.rules.specs.Pile.{Side, Pile, sameOpening}
-use Rattle.rules.specs.Layout.{bodyAt, bodyLength, desks, piles, pileNumber, pileOf, bodyRow, bodyBytes, entryBytes, bookBytes}
-use Rattle.rules.specs.Rows.{later, split, numbersOf, places, laterRow}
-use Rattle.rules.specs.Book.{bookAnswer}
+use Rattle.rules.specs.Layout.{pileOf, bodyRow, bodyBytes, bookBytes}
+use Rattle.rules.specs.Rows.{later, numbersOf, places, laterRow}
 use Rattle.rules.specs.Take.{rowPart, ofCopy, sameBook, rowAnswer, takeAnswer, takenRow, taken, afterTake}
 use Rattle.rules.proofs.Tests.{decided, and-both, and-left-fails, and-right-fails, every-all, not-met, none-met, first-none, when-accepted}
-use Rattle.rules.proofs.Facts.{PileFacts, both-all}
+use Rattle.rules.proofs.Facts.{both-all}
 use Rattle.rules.proofs.Flat.{flat-cong}
-use Rattle.rules.proofs.Body.{Agree, Fits, lawful-fits}
+use Rattle.rules.proofs.Body.{Fits, lawful-fits}
 use Rattle.rules.proofs.Written.{front-part}
 use Rattle.rules.proofs.LawfulBook.{Frame, written-number, written-pile, written-readable}
 use Rattle.rules.proofs.RowBytes.{row, row-part}

@@ -1,23 +1,19 @@
 -- Of two rows one of which is nowhere above the other, a take keeps the other; they are not split.
 -- Assumes nothing.
 use Prim.Native.Nat.{ℕ, suc, _+_, _≤_, _<_}
-use native.Mathlib.Nat.{le-of-eq, le-antisymm, le-trans}
 use native.Mathlib.Decide.{decLt}
 use native.Mathlib.Omega.{arith}
-use mathlib.Core.Path.{_≡_, refl, ap, ap₂, sym, subst, _∙_}
+use mathlib.Core.Path.{_≡_, ap, sym, subst, _∙_}
 use mathlib.Core.Logic.{_⊎_, inl, inr, ⊎-elim, by-cases}
-use mathlib.Core.Bool.{Bool, true, false, cond, true≢false}
-use mathlib.Core.List.{List}
-use lib.ListN.{length, getD}
+use mathlib.Core.Bool.{Bool, false, cond, true≢false}
+use lib.ListN.{getD}
 use lib.Seq.{ext-getD}
-use borrow.Author.Tests.{not-false}
-use Rattle.rules.specs.Loops.{_and_}
 use Rattle.rules.specs.Numbers.{encode}
 use Rattle.rules.specs.Pile.{Side, draw, tip, Pile}
-use Rattle.rules.specs.Layout.{deskLimit, column, rowOf, bodyRow}
-use Rattle.rules.specs.Rows.{alike, later, split, numbersOf, places, laterRow}
+use Rattle.rules.specs.Layout.{deskLimit, rowOf, bodyRow}
+use Rattle.rules.specs.Rows.{later, split, numbersOf, places, laterRow}
 use Rattle.rules.proofs.Tests.{decided}
-use Rattle.rules.proofs.Order.{later-at, later-all, alike-all, comparable, later-row}
+use Rattle.rules.proofs.Order.{later-at, later-all, comparable, later-row}
 use Rattle.rules.proofs.Body.{Fits, by-column, row-column, length-numbers, length-body-row}
 use Rattle.rules.proofs.RowBytes.{row, row-places, row-numbers, row-is-row}
 

@@ -1,13 +1,11 @@
 -- What a desk may do it may still do when the others have acted more: its own row is the same, and what it was given has only grown.
 -- Assumes nothing.
-use Prim.Native.Nat.{ℕ, _+_, _-_, _≤_, _<_}
+use Prim.Native.Nat.{ℕ, _+_, _≤_}
 use native.Mathlib.Nat.{le-refl, le-of-eq, add-le-add, le-trans}
 use native.Mathlib.Omega.{arith}
-use mathlib.Core.Path.{_≡_, refl, ap, ap₂, sym, subst, _∙_}
-use mathlib.Core.Bool.{Bool}
+use mathlib.Core.Path.{_≡_, ap, ap₂, sym, subst}
 use mathlib.Core.List.{List}
 use Rattle.history.proofs.Laws.{own, Ends, run, Entered}
-use Rattle.rules.specs.Loops.{sum}
 use Rattle.rules.specs.Pile.{Side, other, Pile, credit, debit, rights, tallyLimit}
 use Rattle.rules.specs.Acts.{Kind, spend, give, Act, side, tally}
 use Rattle.rules.specs.Layout.{bookBytes}
@@ -16,7 +14,7 @@ use Rattle.rules.specs.Demand.{book}
 use Rattle.rules.proofs.Sums.{sum-cong, sum-le}
 use Rattle.rules.proofs.Acted.{ActFacts}
 use Rattle.rules.proofs.LawfulBook.{Frame}
-use Rattle.rules.proofs.Grown.{at, added, added-ends, grown}
+use Rattle.rules.proofs.Grown.{at, added-ends, grown}
 use Rattle.rules.proofs.Runs.{Lawful, accepted-facts, facts-accepted, runs}
 
 module _ (n p : ℕ) (numbers : ℕ → ℕ) (start : ℕ → Pile) (es fs : List (ℕ × Act)) (k d : ℕ)

@@ -1,13 +1,13 @@
 -- An accepted opening writes a readable book.
 -- Assumes nothing.
-use Prim.Native.Nat.{ℕ, _+_, _*_, _≤_, _<_}
+use Prim.Native.Nat.{ℕ, _<_}
 use native.Mathlib.Omega.{arith}
-use mathlib.Core.Path.{_≡_, refl, ap, ap₂, sym, _∙_}
-use mathlib.Core.Bool.{true, false}
+use mathlib.Core.Path.{_≡_, refl}
+use mathlib.Core.Bool.{true}
 use mathlib.Core.List.{List}
 use borrow.Author.Tests.{leb-true}
-use Rattle.rules.specs.Loops.{between, sum}
-use Rattle.rules.specs.Pile.{Side, draw, tip, Pile, openingLawful, credit, debit}
+use Rattle.rules.specs.Loops.{between}
+use Rattle.rules.specs.Pile.{openingLawful, credit, debit}
 use Rattle.rules.specs.Opening.{given, givenPile, openingAnswer, opened}
 use Rattle.rules.specs.Book.{bookAnswer}
 use Rattle.rules.proofs.Tests.{and-left, and-right, when-not-done, orElse-first, orElse-rest, first-at}

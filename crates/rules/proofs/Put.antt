@@ -5,9 +5,9 @@ use native.Mathlib.Nat.{add-suc, suc-add, add-zero, le-of-suc-le-suc, not-suc-le
 use native.Mathlib.Omega.{arith}
 use mathlib.Core.Path.{_≡_, refl, ap, sym, _∙_}
 use mathlib.Core.Logic.{_⊎_, inl, inr, ⊎-elim}
-use mathlib.Core.List.{List, [], _∷_, _++_}
+use mathlib.Core.List.{List, [], _∷_}
 use lib.ListN.{length, getD, set, length-set}
-use lib.Seq.{sets, length-sets, getD-set-same, getD-set-other}
+use lib.Seq.{sets, getD-set-same, getD-set-other}
 use Rattle.rules.specs.Numbers.{number, bytes}
 use Rattle.rules.proofs.Bytes.{Octets, length-bytes, number-cong, number-bytes}
 

@@ -1,21 +1,21 @@
 -- A desk's row as it stands in a written book, and its numbers by column.
 -- Assumes nothing.
-use Prim.Native.Nat.{ℕ, zero, suc, _+_, _-_, _*_, _/_, _≤_, _<_, suc-le-suc}
+use Prim.Native.Nat.{ℕ, suc, _+_, _-_, _*_, _≤_, _<_}
 use native.Mathlib.Nat.{mul-le-mul-right, suc-mul, add-zero}
 use native.Mathlib.Omega.{arith}
-use mathlib.Core.Path.{_≡_, refl, ap, ap₂, sym, subst, _∙_}
+use mathlib.Core.Path.{_≡_, ap, _∙_}
 use mathlib.Core.Bool.{true}
 use mathlib.Core.List.{List}
 use lib.ListN.{length, getD}
 use lib.Dec.{eqb}
 use borrow.Author.Tests.{eq-eqb}
-use Rattle.rules.specs.Numbers.{number, encode, part}
-use Rattle.rules.specs.Pile.{Side, draw, tip, Pile}
-use Rattle.rules.specs.Layout.{deskLimit, rowLength, bodyLength, bodyAt, cellAt, column, desks, piles, rowOf, bodyRow, bodyBytes, bookBytes}
+use Rattle.rules.specs.Numbers.{encode, part}
+use Rattle.rules.specs.Pile.{draw, tip, Pile}
+use Rattle.rules.specs.Layout.{deskLimit, rowLength, bodyAt, cellAt, rowOf, bodyRow, bodyBytes, bookBytes}
 use Rattle.rules.specs.Rows.{numbersOf, places, isRowLength}
 use Rattle.rules.specs.Take.{rowPart}
 use Rattle.rules.proofs.Tests.{some-at}
-use Rattle.rules.proofs.Bytes.{length-encode, number-encode}
+use Rattle.rules.proofs.Bytes.{number-encode}
 use Rattle.rules.proofs.Flat.{part-flat}
 use Rattle.rules.proofs.Body.{Fits, Fits4, by-column, row-column, length-numbers, row-length, body-rows, length-body-row}
 use Rattle.rules.proofs.Written.{part-of-body}

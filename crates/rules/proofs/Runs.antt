@@ -1,27 +1,24 @@
 -- After entered acts the book is the one written from the grown piles, which are lawful; so what an act is answered there follows from those piles.
 -- Assumes nothing.
-use Prim.Native.Nat.{ℕ, zero, suc, _+_, _≤_, _<_, suc-le-suc}
+use Prim.Native.Nat.{ℕ, zero, suc, _<_, suc-le-suc}
 use native.Mathlib.Nat.{zero-lt-suc, ne-of-lt}
-use native.Mathlib.Omega.{arith}
-use mathlib.Core.Path.{_≡_, refl, ap, ap₂, sym, subst, _∙_}
+use mathlib.Core.Path.{_≡_, refl, ap, ap₂, subst, _∙_}
 use mathlib.Core.Bool.{Bool, true, false, cond, not}
 use mathlib.Core.List.{List, [], _∷_}
-use lib.Dec.{eqb, ltb}
+use lib.Dec.{eqb}
 use borrow.Author.Tests.{lt-ltb, ne-eqb}
 use Rattle.history.proofs.Laws.{run, Entered}
 use Rattle.rules.specs.Loops.{index}
-use Rattle.rules.specs.Refusals.{_when_, _orElse_}
 use Rattle.rules.specs.Pile.{Pile}
 use Rattle.rules.specs.Acts.{Kind, Act, acted, actRefusal}
-use Rattle.rules.specs.Layout.{desks, piles, pileNumber, pileOf, bookBytes}
-use Rattle.rules.specs.Book.{bookAnswer, place, absent, deskAnswer, actAnswer, afterAct}
+use Rattle.rules.specs.Layout.{pileOf, bookBytes}
+use Rattle.rules.specs.Book.{place, absent, deskAnswer, actAnswer, afterAct}
 use Rattle.rules.specs.Demand.{book}
 use Rattle.rules.proofs.Tests.{not-met, none-met}
 use Rattle.rules.proofs.Facts.{PileFacts}
 use Rattle.rules.proofs.Acted.{ActFacts, act-passes}
-use Rattle.rules.proofs.Bytes.{Octets}
 use Rattle.rules.proofs.Body.{Agree}
-use Rattle.rules.proofs.Congruence.{agree-sym, agree-trans, facts-cong, act-facts-cong, acted-cong, book-cong}
+use Rattle.rules.proofs.Congruence.{agree-sym, facts-cong, act-facts-cong, acted-cong, book-cong}
 use Rattle.rules.proofs.AfterAct.{act-desk, act-pile, act-allowed, actedAt, after-act, lawful-after}
 use Rattle.rules.proofs.LawfulBook.{Frame, written-octets, written-number, written-pile, written-readable}
 use Rattle.rules.proofs.Grown.{at, grown, grown-none, grown-acted}

@@ -1,14 +1,14 @@
 -- Every give leaves one desk's rights for another's, so all rights of a side come from shares and tallies alone: the tonnage is
 -- the floor and all draw rights, and the top less all tip rights. Rights are not negative, so it lies between the two.
 -- Assumes nothing.
-use Prim.Native.Nat.{ℕ, _+_, _-_, _≤_, _<_}
+use Prim.Native.Nat.{ℕ, _+_, _≤_, _<_}
 use native.Mathlib.Omega.{arith}
 use native.Mathlib.Nat.{sub-add-cancel}
-use mathlib.Core.Path.{_≡_, refl, ap, ap₂, sym, _∙_}
+use mathlib.Core.Path.{_≡_, ap₂, sym, _∙_}
 use Rattle.rules.specs.Loops.{sum}
 use Rattle.rules.specs.Pile.{Side, draw, tip, other, Pile, credit, debit, rights, tonnage}
-use Rattle.rules.proofs.Sums.{sum-cong, sum-add, sum-swap, sum-le}
-use Rattle.rules.proofs.Facts.{PileFacts, OpeningFacts}
+use Rattle.rules.proofs.Sums.{sum-cong, sum-add, sum-swap}
+use Rattle.rules.proofs.Facts.{PileFacts}
 
 module _ (n : ℕ) (p : Pile) (f : PileFacts n p) where
   -- rights and debit make up the credit, at each desk and so at all

@@ -1,8 +1,8 @@
 -- A pile record in memory: n, floor, top, and all 8 rows and 8 shares of each kind, those past n being zero.
 -- Assumes nothing.
 use Prim.Native.Nat.{ℕ, zero, suc, _+_, _*_}
-use mathlib.Core.Bool.{Bool, true, false, cond, not}
-use mathlib.Core.List.{List, [], _∷_, _++_}
+use mathlib.Core.Bool.{Bool, cond, not}
+use mathlib.Core.List.{List, _∷_, _++_}
 use lib.ListN.{getD, set, replicate}
 use lib.Dec.{ltb, eqb}
 use lib.Seq.{sets}
@@ -10,7 +10,7 @@ use Rattle.rules.specs.Loops.{_and_, _or_, between, every, flat, list}
 use Rattle.rules.specs.Refusals.{_when_, _orElse_, done, Reply, reply}
 use Rattle.rules.specs.Pile.{Side, draw, tip, bothSides, Pile, openingLawful, talliesLawful, lawful, sameOpening, rights, tonnage}
 use Rattle.rules.specs.Acts.{Kind, tally, actRefusal}
-use Rattle.rules.specs.Layout.{deskLimit, column, actColumn, view, desks, piles, pileOf, bodyAt, bodyBytes}
+use Rattle.rules.specs.Layout.{deskLimit, actColumn, view, desks, piles, pileOf, bodyAt, bodyBytes}
 use Rattle.rules.specs.Book.{place, fetchAnswer}
 
 -- The flat arrays: the share of side s and desk j stands at 8s + j; row i of the tallies at 18i, its columns as in a body of 8 desks.

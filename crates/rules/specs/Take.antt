@@ -1,12 +1,12 @@
 -- Taking in another desk's copy: a state-based merge, row by row.
 -- Assumes nothing.
-use Prim.Native.Nat.{ℕ, zero, suc, _+_, _*_}
+use Prim.Native.Nat.{ℕ, zero, suc, _+_}
 use mathlib.Core.Bool.{Bool, not}
 use mathlib.Core.List.{List, _++_}
 use lib.Dec.{ltb, eqb}
 use Rattle.rules.specs.Loops.{_and_, every, flat}
 use Rattle.rules.specs.Refusals.{_when_, _orElse_, first, done}
-use Rattle.rules.specs.Numbers.{number, part}
+use Rattle.rules.specs.Numbers.{part}
 use Rattle.rules.specs.Pile.{sameOpening}
 use Rattle.rules.specs.Layout.{rowLength, bodyAt, cellAt, desks, piles, pileNumber, pileOf}
 use Rattle.rules.specs.Rows.{later, split, numbersOf, places, laterRow}
