@@ -13,7 +13,7 @@ use Rattle.history.proofs.Laws.{own, Ends}
 use Rattle.rules.specs.Loops.{_and_, index}
 use Rattle.rules.specs.Pile.{Side, other, Pile}
 use Rattle.rules.specs.Acts.{Kind, spend, give, Act, sameSide, acted}
-use Rattle.rules.proofs.Tests.{decided, and-comm, and-swap, and-false, and-left-fails, and-right-fails}
+use Rattle.rules.proofs.Tests.{decided, and-comm, and-swap, and-false, and-left-holds, and-left-fails, and-right-fails}
 use Rattle.rules.proofs.Body.{Agree}
 use Rattle.rules.proofs.AfterAct.{actedAt}
 
@@ -69,10 +69,6 @@ module _ (t : Act → Bool) (d : ℕ) (a : Act) (es : List (ℕ × Act)) (i x : 
   tally-kept : t a ≡ false → before ≡ x + added t (own i ((d, a) ∷ es))
   tally-kept e = tally-named false (sym (and-right-fails (eqb i d) e))
 
-named : {b : Bool} → b ≡ true → (c : Bool) → c ≡ b and c
-unfolding _and_
-named e c = ap (λ (b : Bool). b and c) (sym e)
-
 -- where a pile number stands in the contents
 abbrev pub at : ℕ → (ℕ → ℕ) → ℕ → ℕ
 at p numbers number = index p (λ k. eqb (numbers k) number)
@@ -115,7 +111,7 @@ module _ (p : ℕ) (numbers : ℕ → ℕ) (start : ℕ → Pile) where
         top = refl;
         share = λ s i l. refl;
         earned = λ s i l. tally-named _ d _ es i _ (sameSide s (other s′) and eqb i d)
-            (and-comm (sameSide s (other s′)) (eqb i d) ∙ ap (λ (b : Bool). eqb i d and b) (named e (sameSide s (other s′))));
+            (and-comm (sameSide s (other s′)) (eqb i d) ∙ ap (λ (b : Bool). eqb i d and b) (and-left-holds e (sameSide s (other s′))));
         give = λ s i j l m. tally-kept _ d _ es i _ (and-false (eqb k (at p numbers q)));
       }
   entered n d q t (give s′ j′) es k true e =
@@ -125,7 +121,7 @@ module _ (p : ℕ) (numbers : ℕ → ℕ) (start : ℕ → Pile) where
         share = λ s i l. refl;
         earned = λ s i l. tally-kept _ d _ es i _ (and-false (eqb k (at p numbers q)));
         give = λ s i j l m. tally-named _ d _ es i _ (sameSide s s′ and eqb i d and eqb j j′)
-            (and-swap (sameSide s s′) (eqb i d) (eqb j j′) ∙ ap (λ (b : Bool). eqb i d and b) (named e (sameSide s s′ and eqb j j′)));
+            (and-swap (sameSide s s′) (eqb i d) (eqb j j′) ∙ ap (λ (b : Bool). eqb i d and b) (and-left-holds e (sameSide s s′ and eqb j j′)));
       }
   entered n d q t kind es k false e =
       record {

@@ -26,3 +26,4 @@ pub mod RowBytes
 pub mod MergeRow
 pub mod Merge
 pub mod BookLaws
+pub mod RecordFacts

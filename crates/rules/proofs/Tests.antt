@@ -1,7 +1,8 @@
 -- What a test over the numbers below n tells, what a refusal tells, and the other way round.
 -- Assumes nothing.
-use Prim.Native.Nat.{ℕ, zero, suc, _<_}
+use Prim.Native.Nat.{ℕ, zero, suc, _+_, _<_}
 use native.Mathlib.Nat.{le-refl, le-step, not-suc-le-zero, le-of-suc-le-suc, eq-or-lt-of-le, suc-ne-zero}
+use native.Mathlib.Numerals.{add-one}
 use mathlib.Core.Path.{_≡_, refl, ap, ap₂, sym, _∙_}
 use mathlib.Core.Logic.{_⊎_, inl, inr, ⊎-elim, _≢_}
 use mathlib.Core.Bool.{Bool, true, false, cond, not, true≢false, false≢true}
@@ -13,6 +14,12 @@ use Rattle.rules.specs.Refusals.{_when_, _orElse_, first, done}
 pub decided : (b : Bool) → (b ≡ true) ⊎ (b ≡ false)
 decided true = inl refl
 decided false = inr refl
+
+-- tests that hold together are equal
+pub both-ways : (a b : Bool) → (a ≡ true → b ≡ true) → (b ≡ true → a ≡ true) → a ≡ b
+both-ways true b f g = sym (f refl)
+both-ways false true f g = g refl
+both-ways false false f g = refl
 
 pub and-left : (a b : Bool) → a and b ≡ true → a ≡ true
 unfolding _and_
@@ -37,6 +44,10 @@ pub and-false : (a : Bool) → a and false ≡ false
 unfolding _and_
 and-false true = refl
 and-false false = refl
+
+pub and-left-holds : {a : Bool} → a ≡ true → (b : Bool) → b ≡ a and b
+unfolding _and_
+and-left-holds e b = ap (λ (a : Bool). a and b) (sym e)
 
 -- one that fails is enough
 pub and-left-fails : {a : Bool} → a ≡ false → (b : Bool) → a and b ≡ false
@@ -74,6 +85,25 @@ unfolding _or_
 or-right true b e = absurd (true≢false e)
 or-right false b e = e
 
+pub or-first : {a : Bool} → a ≡ true → (b : Bool) → a or b ≡ true
+unfolding _or_
+or-first e b = ap (λ (a : Bool). a or b) e
+
+pub or-second : (a : Bool) {b : Bool} → b ≡ true → a or b ≡ true
+unfolding _or_
+or-second true e = refl
+or-second false e = e
+
+pub or-left-fails : {a : Bool} → a ≡ false → (b : Bool) → b ≡ a or b
+unfolding _or_
+or-left-fails e b = ap (λ (a : Bool). a or b) (sym e)
+
+-- the second of two, where the first fails
+pub or-other : (a b : Bool) → a ≡ false → a or b ≡ true → b ≡ true
+unfolding _or_
+or-other true b e d = absurd (true≢false e)
+or-other false b e d = d
+
 pub or-neither : {a b : Bool} → a ≡ false → b ≡ false → a or b ≡ false
 unfolding _or_
 or-neither p q = ap₂ _or_ p q
@@ -107,6 +137,14 @@ every-fails (suc n) t e = ⊎-elim here (λ f. below (every-fails n t f)) (decid
 
     below : (k : ℕ) × (k < n) × (t k ≡ false) → (k : ℕ) × (k < suc n) × (t k ≡ false)
     below w = (w .0, le-step (w .1), w .2)
+
+-- one number more, as a program's loop counts, and the first at which it fails
+pub every-next : (k : ℕ) (t : ℕ → Bool) → every k t ≡ true → t k ≡ true → every (k + 1) t ≡ true
+unfolding every
+every-next k t e d = ap (λ (n : ℕ). every n t) (add-one k) ∙ and-both e d
+
+pub every-stops : (n : ℕ) (t : ℕ → Bool) (k : ℕ) → k < n → t k ≡ false → every n t ≡ false
+every-stops n t k l e = ⊎-elim (λ a. absurd (true≢false (sym (every-at n t a k l) ∙ e))) (λ a. a) (decided (every n t))
 
 pub some-at : (n : ℕ) (t : ℕ → Bool) (k : ℕ) → k < n → t k ≡ true → some n t ≡ true
 unfolding some

@@ -2,7 +2,10 @@
 -- Assumes nothing.
 use Prim.Native.Nat.{ℕ, zero, suc, _+_, _*_, _/_, _%_}
 use mathlib.Core.List.{List, [], _∷_, _++_}
-use lib.ListN.{getD, take, drop}
+use lib.ListN.{length, getD, take, drop}
+use lib.Dec.{ltb}
+use lib.Seq.{sets}
+use Rattle.rules.specs.Refusals.{_when_, done}
 
 -- the number at a position of a list of bytes
 unfoldable pub number : ℕ → List ℕ → ℕ → ℕ
@@ -22,3 +25,10 @@ encode (x ∷ xs) = bytes 4 x ++ encode xs
 -- a part of a list: so many elements from a position
 abbrev pub part : {A : Type 0} → ℕ → ℕ → List A → List A
 part at count l = take count (drop at l)
+
+-- putting a number into a lent slice of bytes: 8 where it does not fit there; every byte outside stays
+unfoldable pub putAnswer : ℕ → List ℕ → ℕ → ℕ
+putAnswer w b at = 8 when ltb (length b) (at + w)
+
+unfoldable pub afterPut : ℕ → List ℕ → ℕ → ℕ → List ℕ
+afterPut w b at x = done (putAnswer w b at) (sets b at (bytes w x)) b

@@ -1,0 +1,92 @@
+-- The lines of the table for an act on a record, each from what leads to it.
+-- Assumes nothing.
+use Prim.Native.Nat.{ℕ, zero, suc, _+_, _*_, _≤_, _<_}
+use mathlib.Core.Path.{_≡_, refl, ap, sym, subst, _∙_}
+use mathlib.Core.Logic.{_≢_}
+use mathlib.Core.Bool.{Bool, true, false, not}
+use lib.ListN.{getD, set}
+use lib.Dec.{ltb, eqb}
+use borrow.Author.Tests.{lt-ltb, le-ltb}
+use Rattle.rules.specs.Loops.{_or_}
+use Rattle.rules.specs.Refusals.{_when_, _orElse_}
+use Rattle.rules.specs.Pile.{Side, draw, tip, rights, tallyLimit, amountLimit}
+use Rattle.rules.specs.Acts.{Kind, spend, give, side, tally, receiverWrong, actRefusal}
+use Rattle.rules.specs.Layout.{actColumn}
+use Rattle.rules.specs.Record.{Record, recordView, recordAnswer, recordDeskAnswer, recordActAnswer, recordAfterAct}
+use Rattle.rules.proofs.Tests.{when-accepted}
+
+-- the tally of an act stands at its column of the desk's row
+pub tally-at : (r : Record) (i : ℕ) (kind : Kind) → tally (recordView r) i kind ≡ getD (r .tallies) (i * 18 + actColumn 8 kind) 0
+tally-at r i (spend s) = refl
+tally-at r i (give s j) = refl
+
+-- a refusal that comes first
+stands : (m a b : ℕ) → m ≢ 0 → (m orElse a) orElse b ≡ m
+unfolding _orElse_
+stands zero a b d = absurd (d refl)
+stands (suc m) a b d = refl
+
+module _ (r : Record) (i : ℕ) (kind : Kind) (t : ℕ) where
+  pub own-number : (m : ℕ) → m ≡ recordAnswer r → m ≢ 0 → m ≡ recordActAnswer i kind t r
+  unfolding recordActAnswer recordDeskAnswer
+  own-number m e d =
+      sym (ap (λ (x : ℕ). (x orElse 11 when not (ltb i (r .n))) orElse actRefusal (r .n) (recordView r) i kind t) (sym e) ∙ stands m _ _ d)
+
+  module _ (passed : recordAnswer r ≡ 0) where
+    pub number-11 : r .n ≤ i → 11 ≡ recordActAnswer i kind t r
+    unfolding recordActAnswer recordDeskAnswer _when_ _orElse_
+    number-11 l = rw (passed, le-ltb i (r .n) l)
+
+    module _ (desk : i < r .n) where
+      pub number-12 : receiverWrong (r .n) i kind ≡ true → 12 ≡ recordActAnswer i kind t r
+      unfolding recordActAnswer recordDeskAnswer actRefusal _when_ _orElse_
+      number-12 e = rw (passed, lt-ltb i (r .n) desk, e)
+
+      module _ (receiver : receiverWrong (r .n) i kind ≡ false) where
+        pub number-13 : eqb t 0 or ltb amountLimit t ≡ true → 13 ≡ recordActAnswer i kind t r
+        unfolding recordActAnswer recordDeskAnswer actRefusal _when_ _orElse_
+        number-13 e = rw (passed, lt-ltb i (r .n) desk, receiver, e)
+
+        module _ (amount : eqb t 0 or ltb amountLimit t ≡ false) where
+          pub number-14 : rights (r .n) (recordView r) (side kind) i < t → 14 ≡ recordActAnswer i kind t r
+          unfolding recordActAnswer recordDeskAnswer actRefusal _when_ _orElse_
+          number-14 l = rw (passed, lt-ltb i (r .n) desk, receiver, amount, lt-ltb (rights (r .n) (recordView r) (side kind) i) t l)
+
+          module _ (enough : t ≤ rights (r .n) (recordView r) (side kind) i) where
+            pub number-15 : tallyLimit < tally (recordView r) i kind + t → 15 ≡ recordActAnswer i kind t r
+            unfolding recordActAnswer recordDeskAnswer actRefusal _when_ _orElse_
+            number-15 l =
+                rw (passed, lt-ltb i (r .n) desk, receiver, amount, le-ltb (rights (r .n) (recordView r) (side kind) i) t enough, lt-ltb tallyLimit (tally (recordView r) i kind + t) l)
+
+            pub number-0 : tally (recordView r) i kind + t ≤ tallyLimit → 0 ≡ recordActAnswer i kind t r
+            unfolding recordActAnswer recordDeskAnswer actRefusal _when_ _orElse_
+            number-0 l =
+                rw (passed, lt-ltb i (r .n) desk, receiver, amount, le-ltb (rights (r .n) (recordView r) (side kind) i) t enough, le-ltb tallyLimit (tally (recordView r) i kind + t) l)
+
+-- the record with so much more at a column of a desk's row
+abbrev pub more : Record → ℕ → ℕ → ℕ → Record
+more r i column t =
+    record {
+      n = r .n;
+      floor = r .floor;
+      top = r .top;
+      shares = r .shares;
+      tallies = set (r .tallies) (i * 18 + column) (getD (r .tallies) (i * 18 + column) 0 + t);
+    }
+
+pub entered : (r : Record) (i : ℕ) (kind : Kind) (t : ℕ) {column : ℕ} → actColumn 8 kind ≡ column → recordActAnswer i kind t r ≡ 0
+    → more r i column t ≡ recordAfterAct i kind t r
+unfolding recordAfterAct
+entered r i kind t k e =
+    subst (λ (column : ℕ). more r i column t ≡ recordAfterAct i kind t r) k
+    (sym (when-accepted _ _ _ e ∙ ap (stored r i kind t) (tally-at r i kind)))
+  where
+    stored : (r : Record) (i : ℕ) (kind : Kind) (t x : ℕ) → Record
+    stored r i kind t x =
+        record {
+          n = r .n;
+          floor = r .floor;
+          top = r .top;
+          shares = r .shares;
+          tallies = set (r .tallies) (i * 18 + actColumn 8 kind) (x + t);
+        }

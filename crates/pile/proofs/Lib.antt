@@ -1,0 +1,9 @@
+pub mod Arrays
+pub mod Credits
+pub mod Checked
+pub mod Unused
+pub mod Verdict
+pub mod Sides
+pub mod ActNumber
+pub mod Left
+pub mod Answers

@@ -1,0 +1,25 @@
+-- A fresh record is refused exactly where its own check refuses it.
+-- Assumes nothing.
+use borrow.Author.Needs.{needs}
+use Rattle.pile.proofs.Pile.fresh.Statement.{statement}
+use Rattle.pile.proofs.Pile.fresh.Tie as tie
+use mathlib.Core.Path.{sym, _∙_}
+use Rattle.rules.specs.Record.{freshAnswer, freshRecord}
+use Rattle.rules.proofs.Tests.{when-accepted}
+use Rattle.rules.proofs.Refused.{fresh-refused}
+
+check-requires : tie.Need-check-requires
+check-requires c κs = search needs
+
+returns : tie.Need-returns
+unfolding freshAnswer
+returns c = (c .before .check .ensures, sym (fresh-refused _ _ _ _ (λ z. c .if1 .taken (c .before .check .ensures ∙ z))))
+
+returns-2 : tie.Need-returns-2
+unfolding freshAnswer freshRecord
+returns-2 c =
+    let e = sym (c .if1 .left) ∙ c .before .check .ensures in
+    (e, sym (when-accepted _ _ _ (sym e)))
+
+pub fresh-spec : {M : Type 1} → statement M
+fresh-spec = tie.close (tie.spec check-requires returns returns-2)

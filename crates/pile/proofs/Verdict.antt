@@ -1,0 +1,108 @@
+-- The tests of a check in their order, and the number that each gives: they are the lines of the table for a pile record alone.
+-- Assumes nothing.
+use Prim.Native.Nat.{ℕ, suc, _+_, _-_, _*_, _≤_, _<_}
+use native.Mathlib.Nat.{suc-ne-zero}
+use mathlib.Core.Path.{_≡_, refl, ap, ap₂, sym, _∙_}
+use mathlib.Core.Bool.{Bool, true, false, not}
+use mathlib.Core.List.{List}
+use lib.ListN.{getD}
+use lib.Dec.{leb, eqb}
+use borrow.Author.Tests.{leb-true}
+use Rattle.rules.specs.Loops.{_and_, between, sum, every}
+use Rattle.rules.specs.Refusals.{_when_, _orElse_}
+use Rattle.rules.specs.Layout.{deskLimit}
+use Rattle.rules.specs.Pile.{Side, draw, tip, Pile, credit, debit, topLimit, openingLawful, talliesLawful, lawful}
+use Rattle.rules.specs.Record.{Record, recordView, recordAnswer, unusedShares, unusedPlaces}
+use Rattle.rules.proofs.Tests.{and-left, and-right}
+use Rattle.pile.specs.Account.{Accounted, rowRight}
+use Rattle.pile.specs.View.{Audited, bySide}
+use Rattle.pile.proofs.Checked.{total-is, credit-is, debit-is, lawful-is}
+use Rattle.pile.proofs.Unused.{unused-shares, tallies-right}
+
+pub in-range : (n : ℕ) → between 1 deskLimit n ≡ true → (1 ≤ n) × (n ≤ 8)
+unfolding between
+in-range n e = (leb-true _ _ (and-left _ _ e), leb-true _ _ (and-right _ _ e))
+
+-- a refused record: no account is promised
+refuses : {r : Record} (number : ℕ) {cs ds : Side → List ℕ} → recordAnswer r ≡ suc number → Audited r (suc number) cs ds
+refuses number e =
+    record {
+      number-is = sym e;
+      credits-are = λ z. absurd (suc-ne-zero number z);
+      debits-are = λ z. absurd (suc-ne-zero number z);
+    }
+
+pub refused-2 : (r : Record) {cs ds : Side → List ℕ} → between 1 deskLimit (r .n) ≡ false → Audited r 2 cs ds
+unfolding recordAnswer _when_ _orElse_
+refused-2 r e = refuses 1 (rw e)
+
+module _ (r : Record) (range : between 1 deskLimit (r .n) ≡ true) (dright tright : Bool) (dtotal ttotal : ℕ) (dcredit tcredit ddebit tdebit : List ℕ)
+    (d : Accounted (r .shares) (r .tallies) 0 (r .n) dright dtotal dcredit ddebit)
+    (t : Accounted (r .shares) (r .tallies) 1 (r .n) tright ttotal tcredit tdebit) where
+  abbrev n : ℕ
+  n = r .n
+
+  abbrev P : Pile
+  P = recordView r
+
+  n≤8 : r .n ≤ 8
+  n≤8 = in-range (r .n) range .1
+
+  -- 5
+  abbrev openingTest : Bool
+  openingTest =
+      (leb (r .floor) (r .top) and leb (r .top) topLimit and eqb (dtotal + ttotal) (r .top - r .floor))
+      and (every (8 - r .n) (λ k. eqb (getD (r .shares) (r .n + k) 0) 0) and every (8 - r .n) (λ k. eqb (getD (r .shares) (8 + r .n + k) 0) 0))
+
+  opening-test : openingTest ≡ openingLawful (r .n) P and unusedShares (r .n) P
+  unfolding openingLawful
+  opening-test =
+      ap₂ _and_
+      (ap (λ (x : ℕ). leb (r .floor) (r .top) and leb (r .top) topLimit and eqb x (r .top - r .floor))
+      (ap₂ _+_ (total-is r (r .n) draw dright dtotal dcredit ddebit d) (total-is r (r .n) tip tright ttotal tcredit tdebit t)))
+      (unused-shares r (r .n) n≤8)
+
+  pub refused-5 : {cs ds : Side → List ℕ} → openingTest ≡ false → Audited r 5 cs ds
+  unfolding recordAnswer _when_ _orElse_
+  refused-5 e = refuses 4 (rw (range, sym opening-test ∙ e))
+
+  -- 6
+  abbrev talliesTest : Bool
+  talliesTest = dright and tright and every (144 - r .n * 18) (λ k. eqb (getD (r .tallies) (r .n * 18 + k) 0) 0)
+
+  tallies-test : talliesTest ≡ every (r .n) (talliesLawful (r .n) P) and unusedPlaces (r .n) P
+  tallies-test =
+      ap₂ (λ (a b : Bool). a and b and every (144 - r .n * 18) (λ k. eqb (getD (r .tallies) (r .n * 18 + k) 0) 0)) (d .rows-right) (t .rows-right)
+      ∙ tallies-right r (r .n) n≤8
+
+  pub refused-6 : {cs ds : Side → List ℕ} → openingTest ≡ true → talliesTest ≡ false → Audited r 6 cs ds
+  unfolding recordAnswer _when_ _orElse_
+  refused-6 o e = refuses 5 (rw (range, sym opening-test ∙ o, sym tallies-test ∙ e))
+
+  -- 7, and none
+  credits-are : talliesTest ≡ true → (s : Side) (i : ℕ) → i < r .n → getD (bySide dcredit tcredit s) i 0 ≡ credit (r .n) P s i
+  credits-are e draw = credit-is r (r .n) draw dright dtotal dcredit ddebit d (and-left _ _ e)
+  credits-are e tip = credit-is r (r .n) tip tright ttotal tcredit tdebit t (and-left _ _ (and-right _ _ e))
+
+  debits-are : talliesTest ≡ true → (s : Side) (i : ℕ) → i < r .n → getD (bySide ddebit tdebit s) i 0 ≡ debit (r .n) P s i
+  debits-are e draw = debit-is r (r .n) draw dright dtotal dcredit ddebit d (and-left _ _ e)
+  debits-are e tip = debit-is r (r .n) tip tright ttotal tcredit tdebit t (and-left _ _ (and-right _ _ e))
+
+  abbrev rightsTest : Bool
+  rightsTest = every (r .n) (λ i. leb (getD ddebit i 0) (getD dcredit i 0)) and every (r .n) (λ i. leb (getD tdebit i 0) (getD tcredit i 0))
+
+  rights-test : talliesTest ≡ true → rightsTest ≡ lawful (r .n) P
+  rights-test e = lawful-is r (r .n) (bySide dcredit tcredit) (bySide ddebit tdebit) (credits-are e) (debits-are e)
+
+  pub refused-7 : {cs ds : Side → List ℕ} → openingTest ≡ true → talliesTest ≡ true → rightsTest ≡ false → Audited r 7 cs ds
+  unfolding recordAnswer _when_ _orElse_
+  refused-7 o m e = refuses 6 (rw (range, sym opening-test ∙ o, sym tallies-test ∙ m, sym (rights-test m) ∙ e))
+
+  pub accepted : openingTest ≡ true → talliesTest ≡ true → rightsTest ≡ true → Audited r 0 (bySide dcredit tcredit) (bySide ddebit tdebit)
+  unfolding recordAnswer _when_ _orElse_
+  accepted o m e =
+      record {
+        number-is = rw (range, sym opening-test ∙ o, sym tallies-test ∙ m, sym (rights-test m) ∙ e);
+        credits-are = λ _. credits-are m;
+        debits-are = λ _. debits-are m;
+      }

@@ -1,0 +1,19 @@
+-- `desks_right` is the two comparisons of the range.
+-- Assumes nothing.
+use Rattle.pile.proofs.check.desks_right.Statement.{statement}
+use Rattle.pile.proofs.check.desks_right.Tie as tie
+use mathlib.Core.Path.{sym, ap₂, _∙_}
+use borrow.Author.Tests.{lt-leb, le-leb}
+use Rattle.rules.specs.Loops.{_and_, between}
+use Rattle.rules.proofs.Tests.{and-left-fails, and-left-holds}
+
+returns : tie.Need-returns
+unfolding between
+returns c = sym (and-left-fails (lt-leb _ _ (c .if1 .taken)) _)
+
+returns-2 : tie.Need-returns-2
+unfolding between
+returns-2 c = and-left-holds (le-leb _ _ (c .if1 .left)) _
+
+pub desks-right-spec : {M : Type 1} → statement M
+desks-right-spec = tie.close (tie.spec returns returns-2)

@@ -1,0 +1,94 @@
+-- `credit_shares` reads one share after the other, adds it to the sum and notes it as that desk's credit.
+-- Assumes nothing.
+use Prim.Native.Nat.{ℕ, _+_, _-_, _*_, _≤_, _<_}
+use native.Mathlib.Nat.{not-suc-le-zero}
+use native.Mathlib.Omega.{arith}
+use mathlib.Core.Path.{_≡_, refl, sym, ap₂, _∙_}
+use mathlib.Core.List.{List}
+use lib.ListN.{length, getD}
+use Rattle.rules.specs.Loops.{sum}
+use Rattle.pile.proofs.Arrays.{sum-next, set-next}
+use borrow.Author.Needs.{needs}
+use Rattle.pile.proofs.parts.credit_shares.Statement.{statement}
+use Rattle.pile.proofs.parts.credit_shares.Tie as tie
+use Rattle.pile.proofs.parts.credit_shares.Reads as reads
+use Rattle.pile.proofs.parts.credit_shares.Lts as lts
+use Rattle.pile.proofs.parts.wide.Reads as wide-reads
+
+-- a desk's credit is its share, which has 4 bytes
+abbrev Credited : List ℕ → ℕ → ℕ → ℕ → Type 0
+Credited shares from k x = (x ≡ getD shares (from + k) 0) × (x < 4294967296)
+
+abbrev Inv-loop : tie.InvT-loop
+Inv-loop shares from n total₀ credit₀ j₀ total credit j =
+    (j ≤ n) × (length credit ≡ 8) × (total ≡ sum j (λ k. getD shares (from + k) 0)) × (total ≤ j * 4294967296)
+    × ((k : ℕ) → k < j → Credited shares from k (getD credit k 0))
+
+abbrev μ-loop : tie.MeasureT-loop
+μ-loop shares from n total₀ credit₀ j₀ total credit j = n - j
+
+loop-holds : tie.Need-loop-holds Inv-loop μ-loop
+unfolding sum
+loop-holds c = (search needs, search needs, refl, search needs, λ k l. absurd (not-suc-le-zero l))
+
+add-wide : tie.Need-add-wide Inv-loop μ-loop
+add-wide c = search needs
+
+mul-wide : tie.Need-mul-wide Inv-loop μ-loop
+mul-wide c = search needs
+
+shared-slice-read-wide : tie.Need-shared-slice-read-wide Inv-loop μ-loop
+shared-slice-read-wide c = search needs
+
+wide-requires : tie.Need-wide-requires Inv-loop μ-loop
+wide-requires c κs = search needs
+
+add-total : tie.Need-add-total Inv-loop μ-loop
+add-total c = search needs
+
+mul-credit : tie.Need-mul-credit Inv-loop μ-loop
+mul-credit c = search needs
+
+array-write-credit : tie.Need-array-write-credit Inv-loop μ-loop
+array-write-credit c = search needs
+
+add-j : tie.Need-add-j Inv-loop μ-loop
+add-j c = search needs
+
+loop-less : tie.Need-loop-less Inv-loop μ-loop
+loop-less c = search needs
+
+loop-again : tie.Need-loop-again Inv-loop μ-loop
+loop-again c =
+    let loop = c .before .before .before .loop in
+    let args = c .before .before .before .before .before .args in (
+      search needs,
+      search needs,
+      ap₂ _+_ (loop .inv .2) (c .wide .ensures .0) ∙ sym (sum-next _ _),
+      omega arith,
+      set-next (Credited (args .shares .now) (args .from)) (loop .credit) (loop .j) (c .wide .result) (loop .inv .4) (omega arith) (c .wide .ensures),
+    )
+
+returns : tie.Need-returns Inv-loop μ-loop
+returns c =
+    let done : c .before .loop .j ≡ c .before .before .before .args .n = omega arith in
+    (rw done at (c .before .loop .inv .2), rw done at (c .before .loop .inv .4), omega arith)
+
+pub credit-shares-spec : {M : Type 1} → statement M
+credit-shares-spec =
+    tie.close
+    (tie.spec
+    Inv-loop
+    μ-loop
+    loop-holds
+    add-wide
+    mul-wide
+    shared-slice-read-wide
+    wide-requires
+    add-total
+    mul-credit
+    array-write-credit
+    add-j
+    loop-less
+    loop-again
+    returns)

@@ -1,0 +1,39 @@
+-- What the account of one side of a record is: side 0 is draw, side 1 is tip. It is the work of the check, and no contract of a public
+-- function cites it.
+-- Assumes nothing.
+use Prim.Native.Nat.{ℕ, _+_, _-_, _*_, _≤_, _<_}
+use mathlib.Core.Path.{_≡_}
+use mathlib.Core.Bool.{Bool, true}
+use mathlib.Core.List.{List}
+use lib.ListN.{getD}
+use lib.Dec.{leb, eqb}
+use Rattle.rules.specs.Loops.{_and_, sum, every}
+use Rattle.rules.specs.Pile.{tallyLimit}
+
+-- where the record's arrays have a desk's share of a side, what earned it rights, what spent them, and its gives
+module _ (shares tallies : List ℕ) (side : ℕ) where
+  abbrev pub shareOf : ℕ → ℕ
+  shareOf i = getD shares (8 * side + i) 0
+
+  abbrev pub earnedBy : ℕ → ℕ
+  earnedBy i = getD tallies (i * 18 + side) 0
+
+  abbrev pub spentBy : ℕ → ℕ
+  spentBy i = getD tallies (i * 18 + (1 - side)) 0
+
+  abbrev pub givenBy : ℕ → ℕ → ℕ
+  givenBy i j = getD tallies (i * 18 + (2 + 8 * side) + j) 0
+
+  -- the tallies of desk i are lawful, and its unused gives are 0
+  unfoldable pub rowRight : ℕ → ℕ → Bool
+  rowRight n i =
+      leb (earnedBy i) tallyLimit
+      and (every n (λ j. leb (givenBy i j) tallyLimit) and eqb (givenBy i i) 0)
+      and every (8 - n) (λ k. eqb (getD tallies (i * 18 + (2 + 8 * side) + n + k) 0) 0)
+
+  pub record Accounted (n : ℕ) (right : Bool) (total : ℕ) (credit debit : List ℕ) : Type 0 where
+    pub shares-sum : total ≡ sum n shareOf
+    pub shares-most : total ≤ 34359738368
+    pub rows-right : right ≡ every n (rowRight n)
+    pub credits : right ≡ true → (i : ℕ) → i < n → getD credit i 0 ≡ shareOf i + earnedBy i + sum n (λ j. givenBy j i)
+    pub debits : right ≡ true → (i : ℕ) → i < n → getD debit i 0 ≡ sum n (givenBy i) + spentBy i

@@ -1,0 +1,38 @@
+-- The struct as the record of document 01, and its answers as the replies of the rules.
+-- Assumes nothing.
+use Prim.Native.Nat.{ℕ, zero, suc, _<_}
+use mathlib.Core.Path.{_≡_}
+use mathlib.Core.Bool.{Bool, false}
+use mathlib.Core.List.{List}
+use lib.ListN.{getD}
+use Rattle.rules.specs.Refusals.{Reply, refused, value}
+use Rattle.rules.specs.Pile.{Side, draw, tip, credit, debit}
+use Rattle.rules.specs.Acts.{Kind, side, receiverWrong}
+use Rattle.rules.specs.Layout.{actColumn}
+use Rattle.rules.specs.Record.{Record, recordView, recordAnswer}
+use Rattle.pile.specs.declared.Pile.{Pile}
+
+abbrev pub asRecord : Pile → Record
+asRecord p = record { n = p .n; floor = p .floor; top = p .top; shares = p .shares; tallies = p .tallies }
+
+-- the number of a check, and where it is 0 the credit and the debit of each side and desk
+pub record Audited (r : Record) (number : ℕ) (credits debits : Side → List ℕ) : Type 0 where
+  pub number-is : number ≡ recordAnswer r
+  pub credits-are : number ≡ 0 → (s : Side) (i : ℕ) → i < r .n → getD (credits s) i 0 ≡ credit (r .n) (recordView r) s i
+  pub debits-are : number ≡ 0 → (s : Side) (i : ℕ) → i < r .n → getD (debits s) i 0 ≡ debit (r .n) (recordView r) s i
+
+-- by side
+abbrev pub bySide : List ℕ → List ℕ → Side → List ℕ
+bySide a b draw = a
+bySide a b tip = b
+
+abbrev pub sideOf : ℕ → Side
+sideOf zero = draw
+sideOf (suc n) = tip
+
+-- The arguments of the function that enters all four acts are those of an act of this kind: the side whose rights it needs, whether its
+-- receiver is wrong, and, where nothing before it refuses the act, the column of the tally that it adds to.
+pub record Means (r : Record) (sideNumber desk : ℕ) (wrong : Bool) (column : ℕ) (kind : Kind) : Type 0 where
+  pub side-is : side kind ≡ sideOf sideNumber
+  pub receiver-is : receiverWrong (r .n) desk kind ≡ wrong
+  pub column-is : recordAnswer r ≡ 0 → wrong ≡ false → actColumn 8 kind ≡ column
