@@ -1,0 +1,103 @@
+// The worked book's pile as a record: F, the acts that make G of it, and what the table refuses on the way and from G. Each line has the act, its
+// number, and then the tonnage and each desk's draw and tip rights of the record that came back.
+use libc::STDOUT_FILENO;
+use pile::Amount;
+use pile::Entered;
+use pile::Pile;
+
+fn text(s: &[u8]) {
+    io::write_all(STDOUT_FILENO, s);
+}
+
+fn number(x: u64) {
+    io::print_decimal(STDOUT_FILENO, x);
+}
+
+fn amount(a: Amount) {
+    text(b" ");
+    match a {
+        Amount::Tonnes(x) => number(x as u64),
+        Amount::Refused(k) => {
+            text(b"refused ");
+            number(k as u64);
+        }
+    }
+}
+
+// A line for an answer; its record is what the next act is entered in.
+fn line(label: &[u8], e: Entered) -> Pile {
+    text(label);
+    text(b": ");
+    number(e.number as u64);
+    let p = e.pile;
+    text(b" now");
+    amount(p.tonnage());
+    text(b" draw");
+    amount(p.draw_rights(0));
+    amount(p.draw_rights(1));
+    amount(p.draw_rights(2));
+    text(b" tip");
+    amount(p.tip_rights(0));
+    amount(p.tip_rights(1));
+    amount(p.tip_rights(2));
+    text(b"\n");
+    p
+}
+
+// G: F after its seven acts, with cases b and d refused first.
+fn worked() -> Pile {
+    let shares = [0, 0, 0, 0, 0, 0, 0, 0, 40, 30, 30, 0, 0, 0, 0, 0];
+    let f = line(b"F", Pile::fresh(3, 10, 110, shares));
+    let f = line(b"desk 0 draws 1", f.draw(0, 1));
+    let f = line(b"desk 0 tips 41", f.tip(0, 41));
+    let p = line(b"desk 0 tips 30", f.tip(0, 30));
+    let p = line(b"desk 1 tips 1", p.tip(1, 1));
+    let p = line(b"desk 0 gives draw 10 to desk 1", p.give_draw(0, 1, 10));
+    let p = line(b"desk 0 gives draw 10 to desk 2", p.give_draw(0, 2, 10));
+    let p = line(b"desk 0 draws 5", p.draw(0, 5));
+    let p = line(b"desk 1 draws 4", p.draw(1, 4));
+    line(b"desk 2 draws 2", p.draw(2, 2))
+}
+
+// What the table refuses from G.
+fn refused(g: Pile) {
+    let g = line(b"desk 0 gives draw 6 to desk 1", g.give_draw(0, 1, 6));
+    let g = line(b"desk 0 gives draw 1 to itself", g.give_draw(0, 0, 1));
+    let g = line(b"desk 0 gives tip 1 to itself", g.give_tip(0, 0, 1));
+    let g = line(b"desk 0 gives tip 1 to desk 3", g.give_tip(0, 3, 1));
+    let g = line(b"desk 3 tips 1", g.tip(3, 1));
+    let g = line(b"desk 0 tips 0", g.tip(0, 0));
+    let g = line(b"desk 0 tips 1001", g.tip(0, 1001));
+    let g = line(b"desk 0 tips 1000", g.tip(0, 1000));
+    line(b"desk 0 gives draw 5 to desk 1", g.give_draw(0, 1, 5));
+}
+
+// Records that are refused as they are, by their own number.
+fn unlawful() {
+    let zero = [0u32; 16];
+    line(b"no desks", Pile::fresh(0, 0, 0, zero));
+    line(b"nine desks", Pile::fresh(9, 0, 0, zero));
+    line(b"floor above top", Pile::fresh(3, 2, 1, zero));
+    line(
+        b"top above its limit",
+        Pile::fresh(3, 10000001, 10000001, zero),
+    );
+    line(
+        b"floor and top at the limit",
+        Pile::fresh(3, 10000000, 10000000, zero),
+    );
+    let most = Pile {
+        n: 8,
+        floor: 4294967295,
+        top: 4294967295,
+        shares: [4294967295; 16],
+        tallies: [4294967295; 144],
+    };
+    line(b"the largest numbers", most.tip(0, 1));
+}
+
+fn main() {
+    let g = worked();
+    refused(g);
+    unlawful();
+}
