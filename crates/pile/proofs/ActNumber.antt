@@ -3,13 +3,13 @@
 use Prim.Native.Nat.{ℕ, zero, suc, _+_, _*_, _≤_, _<_}
 use mathlib.Core.Path.{_≡_, refl, ap, sym, subst, _∙_}
 use mathlib.Core.Logic.{_≢_}
-use mathlib.Core.Bool.{Bool, true, false, not}
+use mathlib.Core.Bool.{true, false, not}
 use lib.ListN.{getD, set}
 use lib.Dec.{ltb, eqb}
 use borrow.Author.Tests.{lt-ltb, le-ltb}
 use Rattle.rules.specs.Loops.{_or_}
 use Rattle.rules.specs.Refusals.{_when_, _orElse_}
-use Rattle.rules.specs.Pile.{Side, draw, tip, rights, tallyLimit, amountLimit}
+use Rattle.rules.specs.Pile.{rights, tallyLimit, amountLimit}
 use Rattle.rules.specs.Acts.{Kind, spend, give, side, tally, receiverWrong, actRefusal}
 use Rattle.rules.specs.Layout.{actColumn}
 use Rattle.rules.specs.Record.{Record, recordView, recordAnswer, recordDeskAnswer, recordActAnswer, recordAfterAct}

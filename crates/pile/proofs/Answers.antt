@@ -8,8 +8,8 @@ use mathlib.Core.Bool.{not}
 use lib.Dec.{ltb}
 use borrow.Author.Tests.{lt-ltb, le-ltb}
 use Rattle.rules.specs.Loops.{sum}
-use Rattle.rules.specs.Refusals.{_when_, _orElse_, Reply, refused, value, reply}
-use Rattle.rules.specs.Pile.{Side, draw, rights, tonnage}
+use Rattle.rules.specs.Refusals.{_when_, _orElse_, refused, value, reply}
+use Rattle.rules.specs.Pile.{Side, draw, rights}
 use Rattle.rules.specs.Record.{Record, recordView, recordAnswer, recordDeskAnswer, recordTonnageReply, recordRightsReply}
 use Rattle.rules.proofs.Tests.{when-accepted, when-refused}
 use Rattle.rules.proofs.Tonnage.{tonnage-floor}

@@ -1,25 +1,20 @@
 -- What the two accounts of a record tell of it: its shares, tallies and rights are lawful exactly where the tests on the accounts hold.
 -- Assumes nothing.
-use Prim.Native.Nat.{ℕ, _+_, _-_, _*_, _/_, _%_, _≤_, _<_}
-use native.Mathlib.Nat.{zero-add, mod-lt, div-add-mod', div-lt-iff-lt-mul, le-div-iff-mul-le}
-use native.Mathlib.Decide.{decLt}
+use Prim.Native.Nat.{ℕ, _+_, _<_}
 use native.Mathlib.Omega.{arith}
-use mathlib.Core.Path.{_≡_, refl, ap, ap₂, sym, subst, _∙_}
-use mathlib.Core.Logic.{by-cases}
-use mathlib.Core.Bool.{Bool, true, false, cond}
-use mathlib.Core.List.{List, [], _∷_, _++_}
-use lib.ListN.{length, getD}
+use mathlib.Core.Path.{_≡_, refl, ap, ap₂, sym, _∙_}
+use mathlib.Core.Bool.{Bool, true}
+use mathlib.Core.List.{List, [], _∷_}
+use lib.ListN.{getD}
 use lib.Seq.{getD-append-add}
-use lib.Dec.{lit<, leb, ltb, eqb}
-use borrow.Author.Tests.{leb-true, eqb-true, eq-eqb, le-leb, lt-ltb, le-ltb}
-use Rattle.rules.specs.Loops.{_and_, _or_, sum, every}
-use Rattle.rules.specs.Pile.{Side, draw, tip, other, Pile, credit, debit, tallyLimit, talliesLawful, lawful, openingLawful}
-use Rattle.rules.specs.Record.{Record, recordView, unusedShares, unusedPlaces}
-use Rattle.rules.proofs.Tests.{both-ways, and-left, and-right, and-both, and-left-fails, and-right-fails, every-at, every-all, every-cong, or-first, or-second, or-other}
+use lib.Dec.{leb}
+use Rattle.rules.specs.Loops.{_and_, sum, every}
+use Rattle.rules.specs.Pile.{Side, draw, tip, other, Pile, credit, debit, lawful}
+use Rattle.rules.specs.Record.{Record, recordView}
+use Rattle.rules.proofs.Tests.{both-ways, and-left, and-right, and-both, every-at, every-all}
 use Rattle.rules.proofs.Sums.{sum-cong}
 use Rattle.rules.proofs.Facts.{both-at, both-all}
-use Rattle.rules.proofs.Body.{by-column}
-use Rattle.pile.specs.Account.{shareOf, earnedBy, spentBy, givenBy, rowRight, Accounted}
+use Rattle.pile.specs.Account.{shareOf, earnedBy, spentBy, givenBy, Accounted}
 
 abbrev pub sideNumber : Side → ℕ
 sideNumber draw = 0

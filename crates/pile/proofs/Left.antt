@@ -6,10 +6,9 @@ use mathlib.Core.Path.{_≡_, ap₂, sym, _∙_}
 use mathlib.Core.List.{List}
 use lib.ListN.{getD}
 use Rattle.rules.specs.Loops.{sum}
-use Rattle.rules.specs.Pile.{Side, draw, credit, debit, rights}
+use Rattle.rules.specs.Pile.{Side, draw, rights}
 use Rattle.rules.specs.Record.{Record, recordView, recordAnswer}
 use Rattle.rules.proofs.Sums.{sum-cong}
-use Rattle.rules.proofs.Facts.{PileFacts, OpeningFacts}
 use Rattle.rules.proofs.Tonnage.{tonnage-floor, tonnage-within}
 use Rattle.rules.proofs.RecordFacts.{record-range, record-facts, rights-most}
 use Rattle.pile.specs.View.{Audited}

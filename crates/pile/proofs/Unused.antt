@@ -4,20 +4,20 @@ use Prim.Native.Nat.{ℕ, _+_, _-_, _*_, _/_, _%_, _≤_, _<_}
 use native.Mathlib.Nat.{mod-lt, div-add-mod', div-lt-iff-lt-mul, le-div-iff-mul-le}
 use native.Mathlib.Decide.{decLt}
 use native.Mathlib.Omega.{arith}
-use mathlib.Core.Path.{_≡_, refl, ap, ap₂, sym, subst, _∙_}
+use mathlib.Core.Path.{_≡_, ap, sym, subst, _∙_}
 use mathlib.Core.Logic.{_⊎_, inl, inr, ⊎-elim, by-cases}
-use mathlib.Core.Bool.{Bool, true, false}
+use mathlib.Core.Bool.{Bool, true}
 use lib.ListN.{getD}
-use lib.Dec.{lit<, leb, ltb, eqb}
+use lib.Dec.{lit<, eqb}
 use borrow.Author.Tests.{leb-true, eqb-true, eq-eqb, le-leb, lt-ltb, le-ltb}
-use Rattle.rules.specs.Loops.{_and_, _or_, every}
-use Rattle.rules.specs.Pile.{Side, draw, tip, bothSides, Pile, tallyLimit, talliesLawful}
+use Rattle.rules.specs.Loops.{_and_, every}
+use Rattle.rules.specs.Pile.{Side, draw, tip, Pile, tallyLimit, talliesLawful}
 use Rattle.rules.specs.Layout.{column, earnedColumn}
 use Rattle.rules.specs.Record.{Record, recordView, unusedShares, unusedPlaces}
 use Rattle.rules.proofs.Tests.{both-ways, and-left, and-right, and-both, and-left-fails, and-right-fails, every-at, every-all, or-first, or-second, or-other}
 use Rattle.rules.proofs.Facts.{both-at, both-all}
 use Rattle.rules.proofs.Body.{by-column, column-below}
-use Rattle.pile.specs.Account.{earnedBy, givenBy, rowRight}
+use Rattle.pile.specs.Account.{rowRight}
 use Rattle.pile.proofs.Checked.{sideNumber, share-at, earned-at, give-at}
 
 zero-at : (m : ℕ) (f : ℕ → ℕ) → every m (λ k. eqb (f k) 0) ≡ true → (k : ℕ) → k < m → f k ≡ 0

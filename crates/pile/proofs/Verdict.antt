@@ -2,19 +2,19 @@
 -- Assumes nothing.
 use Prim.Native.Nat.{ℕ, suc, _+_, _-_, _*_, _≤_, _<_}
 use native.Mathlib.Nat.{suc-ne-zero}
-use mathlib.Core.Path.{_≡_, refl, ap, ap₂, sym, _∙_}
-use mathlib.Core.Bool.{Bool, true, false, not}
+use mathlib.Core.Path.{_≡_, ap, ap₂, sym, _∙_}
+use mathlib.Core.Bool.{Bool, true, false}
 use mathlib.Core.List.{List}
 use lib.ListN.{getD}
 use lib.Dec.{leb, eqb}
 use borrow.Author.Tests.{leb-true}
-use Rattle.rules.specs.Loops.{_and_, between, sum, every}
+use Rattle.rules.specs.Loops.{_and_, between, every}
 use Rattle.rules.specs.Refusals.{_when_, _orElse_}
 use Rattle.rules.specs.Layout.{deskLimit}
 use Rattle.rules.specs.Pile.{Side, draw, tip, Pile, credit, debit, topLimit, openingLawful, talliesLawful, lawful}
 use Rattle.rules.specs.Record.{Record, recordView, recordAnswer, unusedShares, unusedPlaces}
 use Rattle.rules.proofs.Tests.{and-left, and-right}
-use Rattle.pile.specs.Account.{Accounted, rowRight}
+use Rattle.pile.specs.Account.{Accounted}
 use Rattle.pile.specs.View.{Audited, bySide}
 use Rattle.pile.proofs.Checked.{total-is, credit-is, debit-is, lawful-is}
 use Rattle.pile.proofs.Unused.{unused-shares, tallies-right}

@@ -5,7 +5,6 @@ use mathlib.Core.Path.{_≡_}
 use mathlib.Core.Bool.{Bool, false}
 use mathlib.Core.List.{List}
 use lib.ListN.{getD}
-use Rattle.rules.specs.Refusals.{Reply, refused, value}
 use Rattle.rules.specs.Pile.{Side, draw, tip, credit, debit}
 use Rattle.rules.specs.Acts.{Kind, side, receiverWrong}
 use Rattle.rules.specs.Layout.{actColumn}

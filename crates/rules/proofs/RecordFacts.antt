@@ -7,7 +7,7 @@ use mathlib.Core.Bool.{true}
 use borrow.Author.Tests.{leb-true}
 use Rattle.rules.specs.Loops.{between, every}
 use Rattle.rules.specs.Refusals.{_when_, _orElse_}
-use Rattle.rules.specs.Pile.{Side, draw, tip, Pile, rights, tonnage, topLimit, openingLawful, talliesLawful, lawful, pileAnswer}
+use Rattle.rules.specs.Pile.{Side, draw, tip, Pile, rights, topLimit, openingLawful, talliesLawful, lawful, pileAnswer}
 use Rattle.rules.specs.Layout.{deskLimit}
 use Rattle.rules.specs.Record.{Record, recordView, recordAnswer}
 use Rattle.rules.proofs.Tests.{and-left, and-right, when-not-done, orElse-first, orElse-rest}

@@ -5,7 +5,7 @@ use Prim.Native.Nat.{ℕ, _+_, _-_, _*_, _≤_, _<_}
 use native.Mathlib.Nat.{not-suc-le-zero, add-zero, add-assoc}
 use native.Mathlib.Omega.{arith}
 use mathlib.Core.Path.{_≡_, refl, sym, ap, ap₂, _∙_}
-use mathlib.Core.Bool.{Bool, true, false, false≢true}
+use mathlib.Core.Bool.{true, false, false≢true}
 use mathlib.Core.List.{List}
 use lib.ListN.{length, getD, length-set}
 use borrow.Author.Tests.{lt-leb, le-leb, not-true, not-false}
@@ -17,12 +17,6 @@ use Rattle.pile.proofs.Credits.{added, credit-step, credit-all}
 use borrow.Author.Needs.{needs}
 use Rattle.pile.proofs.account.account_of.Statement.{statement}
 use Rattle.pile.proofs.account.account_of.Tie as tie
-use Rattle.pile.proofs.account.account_of.Reads as reads
-use Rattle.pile.proofs.account.account_of.Lts as lts
-use Rattle.pile.proofs.parts.all_zero.Reads as all-zero-reads
-use Rattle.pile.proofs.parts.credit_gives.Reads as credit-gives-reads
-use Rattle.pile.proofs.parts.credit_shares.Reads as credit-shares-reads
-use Rattle.pile.proofs.parts.wide.Reads as wide-reads
 
 -- at a row that is not right the side is not
 stopped : {shares tallies : List ℕ} {side n total : ℕ} {credit debit : List ℕ} → total ≡ sum n (shareOf shares tallies side)

@@ -6,14 +6,6 @@ use Rattle.pile.proofs.Verdict.{in-range, refused-2, refused-5, refused
 use borrow.Author.Needs.{needs}
 use Rattle.pile.proofs.check.audit_of.Statement.{statement}
 use Rattle.pile.proofs.check.audit_of.Tie as tie
-use Rattle.pile.proofs.check.audit_of.Reads as reads
-use Rattle.pile.proofs.check.audit_of.Lts as lts
-use Rattle.pile.proofs.account.account_of.Reads as account-of-reads
-use Rattle.pile.proofs.check.blank.Reads as blank-reads
-use Rattle.pile.proofs.check.desks_right.Reads as desks-right-reads
-use Rattle.pile.proofs.check.opening_right.Reads as opening-right-reads
-use Rattle.pile.proofs.check.rights_right.Reads as rights-right-reads
-use Rattle.pile.proofs.check.tallies_right.Reads as tallies-right-reads
 
 -- src/check.rt:94:9
 desks-right-requires : tie.Need-desks-right-requires

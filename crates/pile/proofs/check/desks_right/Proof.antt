@@ -2,9 +2,9 @@
 -- Assumes nothing.
 use Rattle.pile.proofs.check.desks_right.Statement.{statement}
 use Rattle.pile.proofs.check.desks_right.Tie as tie
-use mathlib.Core.Path.{sym, ap₂, _∙_}
+use mathlib.Core.Path.{sym}
 use borrow.Author.Tests.{lt-leb, le-leb}
-use Rattle.rules.specs.Loops.{_and_, between}
+use Rattle.rules.specs.Loops.{between}
 use Rattle.rules.proofs.Tests.{and-left-fails, and-left-holds}
 
 returns : tie.Need-returns

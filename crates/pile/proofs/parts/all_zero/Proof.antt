@@ -12,8 +12,6 @@ use Rattle.rules.proofs.Tests.{every-next, every-stops}
 use borrow.Author.Needs.{needs}
 use Rattle.pile.proofs.parts.all_zero.Statement.{statement}
 use Rattle.pile.proofs.parts.all_zero.Tie as tie
-use Rattle.pile.proofs.parts.all_zero.Reads as reads
-use Rattle.pile.proofs.parts.all_zero.Lts as lts
 
 abbrev Inv-loop : tie.InvT-loop
 Inv-loop xs from count k₀ k = (k ≤ count) × (every k (λ j. eqb (getD xs (from + j) 0) 0) ≡ true)

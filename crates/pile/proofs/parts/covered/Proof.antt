@@ -12,8 +12,6 @@ use Rattle.rules.proofs.Tests.{every-next, every-stops}
 use borrow.Author.Needs.{needs}
 use Rattle.pile.proofs.parts.covered.Statement.{statement}
 use Rattle.pile.proofs.parts.covered.Tie as tie
-use Rattle.pile.proofs.parts.covered.Reads as reads
-use Rattle.pile.proofs.parts.covered.Lts as lts
 
 abbrev Inv-loop : tie.InvT-loop
 Inv-loop n credit debit i₀ i = (i ≤ n) × (every i (λ k. leb (getD debit k 0) (getD credit k 0)) ≡ true)

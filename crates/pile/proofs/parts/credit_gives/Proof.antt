@@ -3,22 +3,19 @@
 use Prim.Native.Nat.{ℕ, _+_, _-_, _*_, _≤_, _<_}
 use native.Mathlib.Nat.{not-suc-le-zero, le-refl}
 use native.Mathlib.Omega.{arith}
-use mathlib.Core.Path.{_≡_, refl, sym, ap, ap₂, _∙_}
-use mathlib.Core.Bool.{Bool, true, false, false≢true}
+use mathlib.Core.Path.{_≡_, refl, sym, ap₂, _∙_}
+use mathlib.Core.Bool.{true, false≢true}
 use lib.ListN.{length, getD}
 use lib.Seq.{getD-set-other}
 use lib.Dec.{leb}
 use borrow.Author.Tests.{le-leb, lt-leb, leb-true}
-use Rattle.rules.specs.Loops.{_and_, sum, every}
+use Rattle.rules.specs.Loops.{sum, every}
 use Rattle.rules.specs.Pile.{tallyLimit}
 use Rattle.rules.proofs.Tests.{every-at, every-next, every-stops, and-left-holds, and-left-fails}
 use Rattle.pile.proofs.Arrays.{sum-next, set-next}
 use borrow.Author.Needs.{needs}
 use Rattle.pile.proofs.parts.credit_gives.Statement.{statement}
 use Rattle.pile.proofs.parts.credit_gives.Tie as tie
-use Rattle.pile.proofs.parts.credit_gives.Reads as reads
-use Rattle.pile.proofs.parts.credit_gives.Lts as lts
-use Rattle.pile.proofs.parts.wide.Reads as wide-reads
 
 abbrev Inv-loop : tie.InvT-loop
 Inv-loop tallies at i n credit₀ made₀ j₀ credit made j =

@@ -11,9 +11,6 @@ use Rattle.pile.proofs.Arrays.{sum-next, set-next}
 use borrow.Author.Needs.{needs}
 use Rattle.pile.proofs.parts.credit_shares.Statement.{statement}
 use Rattle.pile.proofs.parts.credit_shares.Tie as tie
-use Rattle.pile.proofs.parts.credit_shares.Reads as reads
-use Rattle.pile.proofs.parts.credit_shares.Lts as lts
-use Rattle.pile.proofs.parts.wide.Reads as wide-reads
 
 -- a desk's credit is its share, which has 4 bytes
 abbrev Credited : List ℕ → ℕ → ℕ → ℕ → Type 0

@@ -9,8 +9,6 @@ use Rattle.pile.proofs.Arrays.{sum-next}
 use borrow.Author.Needs.{needs}
 use Rattle.pile.proofs.queries.all_left.Statement.{statement}
 use Rattle.pile.proofs.queries.all_left.Tie as tie
-use Rattle.pile.proofs.queries.all_left.Reads as reads
-use Rattle.pile.proofs.queries.all_left.Lts as lts
 
 abbrev Inv-loop : tie.InvT-loop
 Inv-loop n credit debit total₀ i₀ total i =

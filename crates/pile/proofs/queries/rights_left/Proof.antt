@@ -3,9 +3,6 @@
 use borrow.Author.Needs.{needs}
 use Rattle.pile.proofs.queries.rights_left.Statement.{statement}
 use Rattle.pile.proofs.queries.rights_left.Tie as tie
-use mathlib.Core.Path.{sym}
-use native.Mathlib.Omega.{arith}
-use Rattle.pile.specs.View.{bySide, sideOf}
 use Rattle.pile.proofs.Sides.{draw-side, tip-side}
 
 mul-result : tie.Need-mul-result
