@@ -42,26 +42,32 @@ module _ (r : Record) (i : ℕ) (kind : Kind) (t : ℕ) where
       unfolding recordActAnswer recordDeskAnswer actRefusal _when_ _orElse_
       number-12 e = rw (passed, lt-ltb i (r .n) desk, e)
 
-      module _ (receiver : receiverWrong (r .n) i kind ≡ false) where
-        pub number-13 : eqb t 0 or ltb amountLimit t ≡ true → 13 ≡ recordActAnswer i kind t r
-        unfolding recordActAnswer recordDeskAnswer actRefusal _when_ _orElse_
-        number-13 e = rw (passed, lt-ltb i (r .n) desk, receiver, e)
+      pub number-13 : receiverWrong (r .n) i kind ≡ false → eqb t 0 or ltb amountLimit t ≡ true → 13 ≡ recordActAnswer i kind t r
+      unfolding recordActAnswer recordDeskAnswer actRefusal _when_ _orElse_
+      number-13 receiver e = rw (passed, lt-ltb i (r .n) desk, receiver, e)
 
-        module _ (amount : eqb t 0 or ltb amountLimit t ≡ false) where
-          pub number-14 : rights (r .n) (recordView r) (side kind) i < t → 14 ≡ recordActAnswer i kind t r
-          unfolding recordActAnswer recordDeskAnswer actRefusal _when_ _orElse_
-          number-14 l = rw (passed, lt-ltb i (r .n) desk, receiver, amount, lt-ltb (rights (r .n) (recordView r) (side kind) i) t l)
+-- the lines up to the amount's let an act through
+pub record Asked (r : Record) (i : ℕ) (kind : Kind) (t : ℕ) : Type 0 where
+  pub own : recordAnswer r ≡ 0
+  pub desk : i < r .n
+  pub receiver : receiverWrong (r .n) i kind ≡ false
+  pub amount : eqb t 0 or ltb amountLimit t ≡ false
 
-          module _ (enough : t ≤ rights (r .n) (recordView r) (side kind) i) where
-            pub number-15 : tallyLimit < tally (recordView r) i kind + t → 15 ≡ recordActAnswer i kind t r
-            unfolding recordActAnswer recordDeskAnswer actRefusal _when_ _orElse_
-            number-15 l =
-                rw (passed, lt-ltb i (r .n) desk, receiver, amount, le-ltb (rights (r .n) (recordView r) (side kind) i) t enough, lt-ltb tallyLimit (tally (recordView r) i kind + t) l)
+module _ {r : Record} {i : ℕ} {kind : Kind} {t : ℕ} (a : Asked r i kind t) {left : ℕ} (is : left ≡ rights (r .n) (recordView r) (side kind) i) where
+  pub number-14 : left < t → 14 ≡ recordActAnswer i kind t r
+  unfolding recordActAnswer recordDeskAnswer actRefusal _when_ _orElse_
+  number-14 l = rw (a .own, lt-ltb i (r .n) (a .desk), a .receiver, a .amount, sym is, lt-ltb left t l)
 
-            pub number-0 : tally (recordView r) i kind + t ≤ tallyLimit → 0 ≡ recordActAnswer i kind t r
-            unfolding recordActAnswer recordDeskAnswer actRefusal _when_ _orElse_
-            number-0 l =
-                rw (passed, lt-ltb i (r .n) desk, receiver, amount, le-ltb (rights (r .n) (recordView r) (side kind) i) t enough, le-ltb tallyLimit (tally (recordView r) i kind + t) l)
+  module _ (enough : t ≤ left) {x : ℕ} (at : tally (recordView r) i kind ≡ x) where
+    pub number-15 : tallyLimit < x + t → 15 ≡ recordActAnswer i kind t r
+    unfolding recordActAnswer recordDeskAnswer actRefusal _when_ _orElse_
+    number-15 l =
+        rw (a .own, lt-ltb i (r .n) (a .desk), a .receiver, a .amount, sym is, le-ltb left t enough, at, lt-ltb tallyLimit (x + t) l)
+
+    pub number-0 : x + t ≤ tallyLimit → 0 ≡ recordActAnswer i kind t r
+    unfolding recordActAnswer recordDeskAnswer actRefusal _when_ _orElse_
+    number-0 l =
+        rw (a .own, lt-ltb i (r .n) (a .desk), a .receiver, a .amount, sym is, le-ltb left t enough, at, le-ltb tallyLimit (x + t) l)
 
 -- the record with so much more at a column of a desk's row
 abbrev pub more : Record → ℕ → ℕ → ℕ → Record

@@ -43,7 +43,7 @@ module _ (r : Record) where
   give-at draw i j = ap (λ (k : ℕ). getD (r .tallies) k 0) (omega arith)
   give-at tip i j = ap (λ (k : ℕ). getD (r .tallies) k 0) (omega arith)
 
-  module _ (n : ℕ) (s : Side) (right : Bool) (total : ℕ) (credit′ debit′ : List ℕ)
+  module _ (n : ℕ) (s : Side) {right : Bool} {total : ℕ} {credit′ debit′ : List ℕ}
       (a : Accounted (r .shares) (r .tallies) (sideNumber s) n right total credit′ debit′) where
     pub total-is : total ≡ sum n (P .share s)
     total-is = a .shares-sum ∙ sum-cong n (λ i _. share-at s i)

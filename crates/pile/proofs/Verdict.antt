@@ -36,12 +36,9 @@ pub refused-2 : (r : Record) {cs ds : Side → List ℕ} → between 1 deskLimit
 unfolding recordAnswer _when_ _orElse_
 refused-2 r e = refuses 1 (rw e)
 
-module _ (r : Record) (range : between 1 deskLimit (r .n) ≡ true) (dright tright : Bool) (dtotal ttotal : ℕ) (dcredit tcredit ddebit tdebit : List ℕ)
+module _ (r : Record) (range : between 1 deskLimit (r .n) ≡ true) {dright tright : Bool} {dtotal ttotal : ℕ} {dcredit tcredit ddebit tdebit : List ℕ}
     (d : Accounted (r .shares) (r .tallies) 0 (r .n) dright dtotal dcredit ddebit)
     (t : Accounted (r .shares) (r .tallies) 1 (r .n) tright ttotal tcredit tdebit) where
-  abbrev n : ℕ
-  n = r .n
-
   abbrev P : Pile
   P = recordView r
 
@@ -59,7 +56,7 @@ module _ (r : Record) (range : between 1 deskLimit (r .n) ≡ true) (dright trig
   opening-test =
       ap₂ _and_
       (ap (λ (x : ℕ). leb (r .floor) (r .top) and leb (r .top) topLimit and eqb x (r .top - r .floor))
-      (ap₂ _+_ (total-is r (r .n) draw dright dtotal dcredit ddebit d) (total-is r (r .n) tip tright ttotal tcredit tdebit t)))
+      (ap₂ _+_ (total-is r (r .n) draw d) (total-is r (r .n) tip t)))
       (unused-shares r (r .n) n≤8)
 
   pub refused-5 : {cs ds : Side → List ℕ} → openingTest ≡ false → Audited r 5 cs ds
@@ -81,12 +78,12 @@ module _ (r : Record) (range : between 1 deskLimit (r .n) ≡ true) (dright trig
 
   -- 7, and none
   credits-are : talliesTest ≡ true → (s : Side) (i : ℕ) → i < r .n → getD (bySide dcredit tcredit s) i 0 ≡ credit (r .n) P s i
-  credits-are e draw = credit-is r (r .n) draw dright dtotal dcredit ddebit d (and-left _ _ e)
-  credits-are e tip = credit-is r (r .n) tip tright ttotal tcredit tdebit t (and-left _ _ (and-right _ _ e))
+  credits-are e draw = credit-is r (r .n) draw d (and-left _ _ e)
+  credits-are e tip = credit-is r (r .n) tip t (and-left _ _ (and-right _ _ e))
 
   debits-are : talliesTest ≡ true → (s : Side) (i : ℕ) → i < r .n → getD (bySide ddebit tdebit s) i 0 ≡ debit (r .n) P s i
-  debits-are e draw = debit-is r (r .n) draw dright dtotal dcredit ddebit d (and-left _ _ e)
-  debits-are e tip = debit-is r (r .n) tip tright ttotal tcredit tdebit t (and-left _ _ (and-right _ _ e))
+  debits-are e draw = debit-is r (r .n) draw d (and-left _ _ e)
+  debits-are e tip = debit-is r (r .n) tip t (and-left _ _ (and-right _ _ e))
 
   abbrev rightsTest : Bool
   rightsTest = every (r .n) (λ i. leb (getD ddebit i 0) (getD dcredit i 0)) and every (r .n) (λ i. leb (getD tdebit i 0) (getD tcredit i 0))

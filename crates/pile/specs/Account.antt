@@ -1,14 +1,33 @@
--- What the account of one side of a record is: side 0 is draw, side 1 is tip. It is the work of the check, and no contract of a public
--- function cites it.
+-- What the account of one side of a record is, and its parts: side 0 is draw, side 1 is tip. It is the work of the check, and no contract of
+-- a public function cites it.
 -- Assumes nothing.
 use Prim.Native.Nat.{ℕ, _+_, _-_, _*_, _≤_, _<_}
 use mathlib.Core.Path.{_≡_}
 use mathlib.Core.Bool.{Bool, true}
 use mathlib.Core.List.{List}
-use lib.ListN.{getD}
+use lib.ListN.{length, getD}
 use lib.Dec.{leb, eqb}
 use Rattle.rules.specs.Loops.{_and_, sum, every}
 use Rattle.rules.specs.Pile.{tallyLimit}
+
+-- the shares of one side from a place on: their sum, and each as its desk's first credit
+abbrev pub SharesCredited : (shares : List ℕ) (from n total : ℕ) (credit : List ℕ) → Type 0
+SharesCredited shares from n total credit =
+    (total ≡ sum n (λ j. getD shares (from + j) 0))
+    × ((j : ℕ) → j < n → (getD credit j 0 ≡ getD shares (from + j) 0) × (getD credit j 0 < 4294967296))
+    × (total ≤ 34359738368)
+
+-- the gives of desk i from a place on: each is within its limit, and the one to itself is 0
+abbrev pub givesRight : (tallies : List ℕ) (at i n : ℕ) → Bool
+givesRight tallies at i n = every n (λ j. leb (getD tallies (at + j) 0) tallyLimit) and eqb (getD tallies (at + i) 0) 0
+
+-- what they come to, and the receivers' credit with them
+abbrev pub GivesCredited : (before tallies : List ℕ) (at n made : ℕ) (credit : List ℕ) → Type 0
+GivesCredited before tallies at n made credit =
+    (made ≡ sum n (λ j. getD tallies (at + j) 0))
+    × (made ≤ 8000000000)
+    × ((k : ℕ) → k < n → (getD credit k 0 ≡ getD before k 0 + getD tallies (at + k) 0) × (getD tallies (at + k) 0 ≤ tallyLimit))
+    × (length credit ≡ 8)
 
 -- where the record's arrays have a desk's share of a side, what earned it rights, what spent them, and its gives
 module _ (shares tallies : List ℕ) (side : ℕ) where

@@ -1,4 +1,4 @@
--- The struct as the record of document 01, and its answers as the replies of the rules.
+-- The struct as the record of document 01, and what the functions inside the crate promise of it.
 -- Assumes nothing.
 use Prim.Native.Nat.{ℕ, zero, suc, _<_}
 use mathlib.Core.Path.{_≡_}

@@ -1,5 +1,5 @@
-// The account of one side of a record: are its tallies lawful, and what are the credit and the debit of each desk? Each number of the side is
-// read once.
+// The account of one side of a record: are its tallies lawful, and what are the credit and the debit of each desk? One pass over the side's numbers
+// finds both for all desks.
 use crate::Pile;
 use crate::parts::all_zero;
 use crate::parts::credit_gives;
@@ -10,6 +10,7 @@ ghost use mathlib.Core.Path.{_≡_};
 ghost use lib.ListN.{length};
 ghost use Rattle.pile.specs.Account.{Accounted};
 
+// Are the side's tallies lawful, and its unused gives 0? The sum of its shares; where it is right, each desk's credit and debit.
 pub struct Account {
     pub right: bool,
     pub total: u64,

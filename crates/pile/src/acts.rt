@@ -70,7 +70,8 @@ pub(crate) fn enter(p: Pile, side: u8, desk: u8, wrong: bool, column: usize, amo
 
 // Tipping spends tip rights, and drawing draw rights.
 pub(crate) fn spend_side(p: Pile, side: u8, desk: u8, amount: u32) -> Entered
-    ensures { λ r. ⌜ (r .number ≡ recordActAnswer desk (spend (sideOf side)) amount (asRecord p)) × (asRecord (r .pile) ≡ recordAfterAct desk (spend (sideOf side)) amount (asRecord p)) ⌝ }
+    ensures number { λ r. ⌜ r .number ≡ recordActAnswer desk (spend (sideOf side)) amount (asRecord p) ⌝ }
+    ensures pile { λ r. ⌜ asRecord (r .pile) ≡ recordAfterAct desk (spend (sideOf side)) amount (asRecord p) ⌝ }
 {
     if side == 0 {
         return enter(p, side, desk, false, 1, amount);
@@ -103,7 +104,8 @@ pub(crate) fn give_column(side: u8, receiver: u8) -> usize
 
 // A give of a side to a receiver.
 pub(crate) fn give_side(p: Pile, side: u8, desk: u8, receiver: u8, amount: u32) -> Entered
-    ensures { λ r. ⌜ (r .number ≡ recordActAnswer desk (give (sideOf side) receiver) amount (asRecord p)) × (asRecord (r .pile) ≡ recordAfterAct desk (give (sideOf side) receiver) amount (asRecord p)) ⌝ }
+    ensures number { λ r. ⌜ r .number ≡ recordActAnswer desk (give (sideOf side) receiver) amount (asRecord p) ⌝ }
+    ensures pile { λ r. ⌜ asRecord (r .pile) ≡ recordAfterAct desk (give (sideOf side) receiver) amount (asRecord p) ⌝ }
 {
     let wrong = receiver_wrong(p.n, desk, receiver);
     let column = give_column(side, receiver);

@@ -14,6 +14,7 @@ ghost use Rattle.rules.specs.Layout.{deskLimit};
 ghost use Rattle.rules.specs.Pile.{topLimit};
 ghost use Rattle.pile.specs.View.{asRecord, Audited, bySide};
 
+// A record's own number, and the account of each side. Where the number is not 0 no account is promised.
 pub struct Audit {
     pub number: u8,
     pub draw: Account,
@@ -79,6 +80,7 @@ pub(crate) fn rights_right(draw: Account, tip: Account, n: usize) -> bool
     covered(tip_credit, tip_debit, n)
 }
 
+// An account that nobody reads: it stands beside the refusal of n, for which there are no desks to account for.
 pub(crate) fn blank() -> Account {
     Account {
         right: false,
@@ -88,6 +90,7 @@ pub(crate) fn blank() -> Account {
     }
 }
 
+// The first refusal in the table's order, and where there is none the accounts of both sides.
 pub(crate) fn audit_of(p: Pile) -> Audit
     ensures { λ r. ⌜ Audited (asRecord p) (r .number) (bySide (r .draw .credit) (r .tip .credit)) (bySide (r .draw .debit) (r .tip .debit)) ⌝ }
 {

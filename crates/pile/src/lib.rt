@@ -49,7 +49,8 @@ impl Pile {
 
     // A fresh record, with all tallies 0: refused, all zeros.
     pub fn fresh(n: u8, floor: u32, top: u32, shares: [u32; 16]) -> Entered
-        ensures { λ r. ⌜ (r .number ≡ freshAnswer n floor top shares) × (asRecord (r .pile) ≡ freshRecord n floor top shares) ⌝ }
+        ensures number { λ r. ⌜ r .number ≡ freshAnswer n floor top shares ⌝ }
+        ensures pile { λ r. ⌜ asRecord (r .pile) ≡ freshRecord n floor top shares ⌝ }
     {
         let pile = Pile {
             n,
@@ -101,25 +102,29 @@ impl Pile {
     }
 
     pub fn tip(self, desk: u8, amount: u32) -> Entered
-        ensures { λ r. ⌜ (r .number ≡ recordActAnswer desk (spend tip) amount (asRecord self)) × (asRecord (r .pile) ≡ recordAfterAct desk (spend tip) amount (asRecord self)) ⌝ }
+        ensures number { λ r. ⌜ r .number ≡ recordActAnswer desk (spend tip) amount (asRecord self) ⌝ }
+        ensures pile { λ r. ⌜ asRecord (r .pile) ≡ recordAfterAct desk (spend tip) amount (asRecord self) ⌝ }
     {
         spend_side(self, 1, desk, amount)
     }
 
     pub fn draw(self, desk: u8, amount: u32) -> Entered
-        ensures { λ r. ⌜ (r .number ≡ recordActAnswer desk (spend draw) amount (asRecord self)) × (asRecord (r .pile) ≡ recordAfterAct desk (spend draw) amount (asRecord self)) ⌝ }
+        ensures number { λ r. ⌜ r .number ≡ recordActAnswer desk (spend draw) amount (asRecord self) ⌝ }
+        ensures pile { λ r. ⌜ asRecord (r .pile) ≡ recordAfterAct desk (spend draw) amount (asRecord self) ⌝ }
     {
         spend_side(self, 0, desk, amount)
     }
 
     pub fn give_draw(self, desk: u8, receiver: u8, amount: u32) -> Entered
-        ensures { λ r. ⌜ (r .number ≡ recordActAnswer desk (give draw receiver) amount (asRecord self)) × (asRecord (r .pile) ≡ recordAfterAct desk (give draw receiver) amount (asRecord self)) ⌝ }
+        ensures number { λ r. ⌜ r .number ≡ recordActAnswer desk (give draw receiver) amount (asRecord self) ⌝ }
+        ensures pile { λ r. ⌜ asRecord (r .pile) ≡ recordAfterAct desk (give draw receiver) amount (asRecord self) ⌝ }
     {
         give_side(self, 0, desk, receiver, amount)
     }
 
     pub fn give_tip(self, desk: u8, receiver: u8, amount: u32) -> Entered
-        ensures { λ r. ⌜ (r .number ≡ recordActAnswer desk (give tip receiver) amount (asRecord self)) × (asRecord (r .pile) ≡ recordAfterAct desk (give tip receiver) amount (asRecord self)) ⌝ }
+        ensures number { λ r. ⌜ r .number ≡ recordActAnswer desk (give tip receiver) amount (asRecord self) ⌝ }
+        ensures pile { λ r. ⌜ asRecord (r .pile) ≡ recordAfterAct desk (give tip receiver) amount (asRecord self) ⌝ }
     {
         give_side(self, 1, desk, receiver, amount)
     }

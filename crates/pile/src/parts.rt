@@ -1,12 +1,12 @@
-// The parts of a record's check. Each number is read once for the side that it belongs to.
+// The parts of a record's check. Sums are u64, so no number of a record, lawful or not, makes one wrap.
 use crate::Pile;
 ghost use mathlib.Core.Path.{_≡_};
 ghost use mathlib.Core.Bool.{true};
 ghost use Prim.Native.Nat.{ℕ, _+_, _≤_, _<_};
 ghost use lib.ListN.{length, getD};
 ghost use lib.Dec.{leb, eqb};
-ghost use Rattle.rules.specs.Loops.{_and_, sum, every};
-ghost use Rattle.rules.specs.Pile.{tallyLimit};
+ghost use Rattle.rules.specs.Loops.{every};
+ghost use Rattle.pile.specs.Account.{SharesCredited, givesRight, GivesCredited};
 
 // A number, in the width of sums.
 pub(crate) fn wide(x: u32) -> u64
@@ -38,7 +38,7 @@ pub struct Shares {
 
 pub(crate) fn credit_shares(shares: &[u32], from: usize, n: usize) -> Shares
     requires { ⌜ (n ≤ 8) × (from + 8 ≤ length (now shares)) ⌝ }
-    ensures { λ r. ⌜ (r .total ≡ sum n (λ j. getD (now (shares .entry)) (from + j) 0)) × ((j : ℕ) → j < n → (getD (r .credit) j 0 ≡ getD (now (shares .entry)) (from + j) 0) × (getD (r .credit) j 0 < 4294967296)) × (r .total ≤ 34359738368) ⌝ }
+    ensures { λ r. ⌜ SharesCredited (now (shares .entry)) from n (r .total) (r .credit) ⌝ }
 {
     let mut total: u64 = 0;
     let mut credit = [0u64; 8];
@@ -68,7 +68,8 @@ pub(crate) fn credit_gives(
     n: usize,
 ) -> Gives
     requires { ⌜ (n ≤ 8) × (i < n) × (at + 8 ≤ length (now tallies)) × ((k : ℕ) → k < n → getD before k 0 ≤ 1000000000000) ⌝ }
-    ensures { λ r. ⌜ (r .right ≡ every n (λ j. leb (getD (now (tallies .entry)) (at + j) 0) tallyLimit) and eqb (getD (now (tallies .entry)) (at + i) 0) 0) × (r .right ≡ true → (r .made ≡ sum n (λ j. getD (now (tallies .entry)) (at + j) 0)) × (r .made ≤ 8000000000) × ((k : ℕ) → k < n → (getD (r .credit) k 0 ≡ getD before k 0 + getD (now (tallies .entry)) (at + k) 0) × (getD (now (tallies .entry)) (at + k) 0 ≤ tallyLimit)) × (length (r .credit) ≡ 8)) ⌝ }
+    ensures right { λ r. ⌜ r .right ≡ givesRight (now (tallies .entry)) at i n ⌝ }
+    ensures credited { λ r. ⌜ (r .right ≡ true → GivesCredited before (now (tallies .entry)) at n (r .made) (r .credit)) ⌝ }
 {
     let mut credit = before;
     let mut made: u64 = 0;

@@ -38,6 +38,7 @@ pub(crate) fn all_left(credit: [u64; 8], debit: [u64; 8], n: usize) -> u64
     total
 }
 
+// Rights of a side at a desk.
 pub(crate) fn rights_of(p: Pile, side: u8, desk: u8) -> Amount
     ensures { λ r. ⌜ asReply r ≡ recordRightsReply (sideOf side) desk (asRecord p) ⌝ }
 {

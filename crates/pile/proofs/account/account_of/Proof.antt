@@ -43,6 +43,13 @@ Inv-loop shares tallies side n total credit₀ debit₀ i₀ credit debit i =
 abbrev μ-loop : tie.MeasureT-loop
 μ-loop shares tallies side n total credit₀ debit₀ i₀ credit debit i = n - i
 
+-- from a row that is not refused, the loop's head and the entry
+abbrev start : tie.At-loop Inv-loop μ-loop → tie.Start Inv-loop μ-loop
+start c = c .before .before .before .before .before
+
+abbrev head : tie.Else2 Inv-loop μ-loop → tie.At-loop Inv-loop μ-loop
+head c = c .before .before .before .before .before .before
+
 mul-credit-shares : tie.Need-mul-credit-shares Inv-loop μ-loop
 mul-credit-shares c = search needs
 
@@ -82,10 +89,10 @@ wide-requires c κs = search needs
 returns : tie.Need-returns Inv-loop μ-loop
 unfolding rowRight
 returns c =
-    let loop = c .before .before .before .before .loop in
-    let args = c .before .before .before .before .before .before .before .before .before .args in
-    let above : 1000000000 < earnedBy (args .shares .now) (args .tallies .now) (args .side) (loop .i) = omega arith in
-    stopped (loop .inv .3) (loop .inv .4) (loop .i) (search needs) (and-left-fails (lt-leb _ _ above) _)
+    let at = c .before .before .before .before in
+    let args = start at .args in
+    let above : 1000000000 < earnedBy (args .shares .now) (args .tallies .now) (args .side) (at .loop .i) = omega arith in
+    stopped (at .loop .inv .3) (at .loop .inv .4) (at .loop .i) (search needs) (and-left-fails (lt-leb _ _ above) _)
 
 mul-first : tie.Need-mul-first Inv-loop μ-loop
 mul-first c = search needs
@@ -108,7 +115,8 @@ returns-2 : tie.Need-returns-2 Inv-loop μ-loop
 unfolding rowRight
 returns-2 c =
     let loop = c .before .before .before .before .before .before .loop in
-    stopped (loop .inv .3) (loop .inv .4) (loop .i) (search needs) (and-right-fails _ (and-left-fails (sym (c .before .credit-gives .ensures .0) ∙ not-true _ (c .if2 .taken)) _))
+    stopped (loop .inv .3) (loop .inv .4) (loop .i) (search needs)
+    (and-right-fails _ (and-left-fails (sym (c .before .credit-gives .ensures .0) ∙ not-true _ (c .if2 .taken)) _))
 
 add-all-zero : tie.Need-add-all-zero Inv-loop μ-loop
 add-all-zero c = search needs
@@ -122,8 +130,9 @@ all-zero-requires c κs = search needs
 returns-3 : tie.Need-returns-3 Inv-loop μ-loop
 unfolding rowRight
 returns-3 c =
-    let loop = c .before .before .before .before .before .before .before .before .loop in
-    stopped (loop .inv .3) (loop .inv .4) (loop .i) (search needs) (and-right-fails _ (and-right-fails _ (sym (c .before .all-zero .ensures) ∙ not-true _ (c .if3 .taken))))
+    let loop = head (c .before .before) .loop in
+    stopped (loop .inv .3) (loop .inv .4) (loop .i) (search needs)
+    (and-right-fails _ (and-right-fails _ (sym (c .before .all-zero .ensures) ∙ not-true _ (c .if3 .taken))))
 
 mul-credit : tie.Need-mul-credit Inv-loop μ-loop
 mul-credit c = search needs
@@ -133,8 +142,9 @@ array-read-credit c = search needs
 
 add-credit : tie.Need-add-credit Inv-loop μ-loop
 add-credit c =
-    let loop = c .before .before .before .before .before .before .before .before .before .loop in
-    let gives = c .before .before .before .before .credit-gives .ensures .1 (not-false _ (c .before .before .before .if2 .left)) in
+    let two = c .before .before .before in
+    let loop = head two .loop in
+    let gives = two .before .credit-gives .ensures .1 (not-false _ (two .if2 .left)) in
     omega (arith, loop .inv .7 (loop .i) (omega arith), gives .2 (loop .i) (omega arith))
 
 mul-credit-2 : tie.Need-mul-credit-2 Inv-loop μ-loop
@@ -163,7 +173,8 @@ wide-requires-2 c κs = search needs
 
 add-debit : tie.Need-add-debit Inv-loop μ-loop
 add-debit c =
-    let gives = c .before .before .before .before .before .before .before .credit-gives .ensures .1 (not-false _ (c .before .before .before .before .before .before .if2 .left)) in
+    let two = c .before .before .before .before .before .before in
+    let gives = two .before .credit-gives .ensures .1 (not-false _ (two .if2 .left)) in
     omega (arith, gives .1, c .before .wide2 .ensures .1)
 
 mul-debit : tie.Need-mul-debit Inv-loop μ-loop
@@ -181,16 +192,19 @@ loop-less c = search needs
 loop-again : tie.Need-loop-again Inv-loop μ-loop
 unfolding rowRight
 loop-again c =
-    let loop = c .before .before .before .before .before .before .before .before .before .before .before .before .loop in
-    let args = c .before .before .before .before .before .before .before .before .before .before .before .before .before .before .before .before .before .args in
+    let three = c .before .before .before .before in
+    let two = three .before .before in
+    let loop = head two .loop in
+    let entry = start (head two) in
+    let args = entry .args in
     let S = args .shares .now in
     let T = args .tallies .now in
     let σ = args .side in
-    let row = c .before .before .before .before .before .before .before .credit-gives in
-    let gives = row .ensures .1 (not-false _ (c .before .before .before .before .before .before .if2 .left)) in
-    let earned = c .before .before .before .before .before .before .before .before .before .wide in
+    let row = two .before .credit-gives in
+    let gives = row .ensures .1 (not-false _ (two .if2 .left)) in
+    let earned = two .before .before .before .wide in
     let within : earnedBy S T σ (loop .i) ≤ 1000000000 = omega arith in
-    let i<8 : loop .i < 8 = omega (arith, c .before .before .before .before .before .before .before .before .before .before .before .before .before .before .before .before .before .pre .1) in
+    let i<8 : loop .i < 8 = omega (arith, entry .pre .1) in
     let stored : getD (row .result .credit) (loop .i) 0 + earned .result ≤ 4294967296 + (loop .i + 1) * 2000000000
     = omega (arith, loop .inv .7 (loop .i) (omega arith), gives .2 (loop .i) (omega arith)) in (
       search needs,
@@ -199,7 +213,8 @@ loop-again c =
       loop .inv .3,
       loop .inv .4,
       every-next _ _ (loop .inv .5)
-          (and-both (le-leb _ _ within) (and-both (sym (row .ensures .0) ∙ not-false _ (c .before .before .before .before .before .before .if2 .left)) (sym (c .before .before .before .before .before .all-zero .ensures) ∙ not-false _ (c .before .before .before .before .if3 .left)))),
+          (and-both (le-leb _ _ within)
+          (and-both (sym (row .ensures .0) ∙ not-false _ (two .if2 .left)) (sym (three .before .all-zero .ensures) ∙ not-false _ (three .if3 .left)))),
       λ k l. credit-step (givenBy S T σ) (earnedBy S T σ) (row .result .credit) (loop .i) k (earned .result) (shareOf S T σ k) (getD (loop .credit) k 0)
           (omega (arith, gives .3)) (gives .2 k l .0) (loop .inv .6 k l) (earned .ensures .0),
       λ k l. set-at-most (row .result .credit) (loop .i) _ k _ (omega (arith, gives .3)) (omega (arith, loop .inv .7 k l, gives .2 k l)) stored,
@@ -210,7 +225,7 @@ loop-again c =
 returns-4 : tie.Need-returns-4 Inv-loop μ-loop
 returns-4 c =
     let loop = c .before .loop in
-    let args = c .before .before .before .before .before .before .args in
+    let args = start (c .before) .args in
     let S = args .shares .now in
     let T = args .tallies .now in
     let σ = args .side in

@@ -5,14 +5,71 @@ use Rattle.pile.proofs.acts.act_number.Statement.{statement}
 use Rattle.pile.proofs.acts.act_number.Tie as tie
 use Prim.Native.Nat.{ℕ, _+_, _*_, _≤_, _<_}
 use native.Mathlib.Omega.{arith}
-use mathlib.Core.Path.{subst, _∙_}
+use mathlib.Core.Path.{_≡_, _∙_}
 use lib.ListN.{getD}
 use borrow.Author.Tests.{eq-eqb, ne-eqb, lt-ltb, le-ltb}
-use Rattle.rules.specs.Pile.{tallyLimit}
+use Rattle.rules.specs.Pile.{rights, tallyLimit}
+use Rattle.rules.specs.Acts.{Kind, side, tally}
+use Rattle.rules.specs.Record.{recordView, recordAnswer}
 use Rattle.rules.proofs.Tests.{or-first, or-second, or-neither}
-use Rattle.pile.specs.View.{asRecord, sideOf}
-use Rattle.pile.proofs.ActNumber.{tally-at, own-number, number-11, number-12, number-13, number-14, number-15, number-0}
+use Rattle.pile.specs.View.{asRecord, sideOf, Means}
+use Rattle.pile.proofs.ActNumber.{tally-at, own-number, number-11, number-12, number-13, Asked, number-14, number-15, number-0}
 use Rattle.pile.proofs.Left.{passed, desks-most, left-covered, left-is}
+
+-- the arguments are those of an act of this kind
+abbrev MeansAt : tie.Start → Kind → Type 0
+MeansAt c kind = Means (asRecord (c .args .p)) (c .args .side) (c .args .desk) (c .args .wrong) (c .args .column) kind
+
+-- Past the first test the record is lawful, past the second the desk is one of it.
+own : (c : tie.Else1) → recordAnswer (asRecord (c .before .before .args .p)) ≡ 0
+own c = passed (c .before .audit-of .ensures) (c .if1 .left)
+
+desk-most : (c : tie.Else2) → c .before .before .before .before .args .desk < 8
+desk-most c = omega (arith, c .if2 .left, desks-most (c .before .before .before .audit-of .ensures) (c .before .before .if1 .left))
+
+-- Past the fifth all but rights and tally is asked.
+abbrev desk-passed : tie.Else5 → tie.Else2
+desk-passed c = c .before .before .before
+
+abbrev own-passed : tie.Else5 → tie.Else1
+own-passed c = desk-passed c .before .before
+
+abbrev start : tie.Else5 → tie.Start
+start c = own-passed c .before .before
+
+asked : (c : tie.Else5) {kind : Kind} → MeansAt (start c) kind
+    → Asked (asRecord (start c .args .p)) (start c .args .desk) kind (start c .args .amount)
+asked c means =
+    record {
+      own = own (own-passed c);
+      desk = desk-passed c .if2 .left;
+      receiver = means .receiver-is ∙ c .before .before .if3 .left;
+      amount = or-neither (ne-eqb _ 0 (c .before .if4 .left)) (le-ltb _ _ (c .if5 .left));
+    }
+
+-- what the audit leaves the desk is its right
+left : (c : tie.After-rights-left) {kind : Kind} → MeansAt (start (c .before)) kind
+    → c .rights-left .result
+    ≡ rights (start (c .before) .args .p .n) (recordView (asRecord (start (c .before) .args .p))) (side kind) (start (c .before) .args .desk)
+left c means =
+    rw (means .side-is)
+    (c .rights-left .ensures
+    ∙ left-is (own-passed (c .before) .before .audit-of .ensures) (own-passed (c .before) .if1 .left) (sideOf (start (c .before) .args .side)) _ (desk-passed (c .before) .if2 .left))
+
+-- and the number read is the act's tally
+abbrev past-rights : tie.Else6 → tie.Else5
+past-rights c = c .before .before .before
+
+enough : (c : tie.Else6) → start (past-rights c) .args .amount ≤ c .before .before .rights-left .result
+enough c = omega (arith, c .if6 .left, c .before .wide .ensures .0)
+
+abbrev Tally : tie.Else6 → ℕ
+Tally c = let a = start (past-rights c) .args in getD (a .p .tallies) (a .desk * 18 + a .column) 0
+
+tally-is : (c : tie.Else6) {kind : Kind} → MeansAt (start (past-rights c)) kind
+    → tally (recordView (asRecord (start (past-rights c) .args .p))) (start (past-rights c) .args .desk) kind ≡ Tally c
+tally-is c {kind} means =
+    rw (tally-at (asRecord (start (past-rights c) .args .p)) (start (past-rights c) .args .desk) kind, means .column-is (own (own-passed (past-rights c))) (past-rights c .before .before .if3 .left))
 
 audit-of-requires : tie.Need-audit-of-requires
 audit-of-requires c κs = search needs
@@ -22,36 +79,33 @@ returns c =
     (λ kind means. own-number _ _ kind _ _ (c .before .audit-of .ensures .number-is) (c .if1 .taken), λ z. absurd (c .if1 .taken z))
 
 returns-2 : tie.Need-returns-2
-returns-2 c =
-    (λ kind means. number-11 _ _ kind _ (passed (c .before .before .before .audit-of .ensures) (c .before .before .if1 .left)) (c .if2 .taken), λ z. absurd (omega arith))
+returns-2 c = (λ kind means. number-11 _ _ kind _ (own (c .before .before)) (c .if2 .taken), λ z. absurd (omega arith))
 
 returns-3 : tie.Need-returns-3
 returns-3 c =
-    (λ kind means. number-12 _ _ kind _ (passed (c .before .before .before .before .audit-of .ensures) (c .before .before .before .if1 .left)) (c .before .if2 .left) (means .receiver-is ∙ c .if3 .taken), λ z. absurd (omega arith))
+    (λ kind means. number-12 _ _ kind _ (own (c .before .before .before)) (c .before .if2 .left) (means .receiver-is ∙ c .if3 .taken), λ z. absurd (omega arith))
 
 returns-4 : tie.Need-returns-4
 returns-4 c =
-    (λ kind means. number-13 _ _ kind _ (passed (c .before .before .before .before .before .audit-of .ensures) (c .before .before .before .before .if1 .left)) (c .before .before .if2 .left) (means .receiver-is ∙ c .before .if3 .left) (or-first (eq-eqb _ 0 (c .if4 .taken)) _), λ z. absurd (omega arith))
+    let desk = c .before .before in
+    (λ kind means. number-13 _ _ kind _ (own (desk .before .before)) (desk .if2 .left) (means .receiver-is ∙ c .before .if3 .left) (or-first (eq-eqb _ 0 (c .if4 .taken)) _), λ z. absurd (omega arith))
 
 returns-5 : tie.Need-returns-5
 returns-5 c =
-    (λ kind means. number-13 _ _ kind _ (passed (c .before .before .before .before .before .before .audit-of .ensures) (c .before .before .before .before .before .if1 .left)) (c .before .before .before .if2 .left) (means .receiver-is ∙ c .before .before .if3 .left) (or-second _ (lt-ltb _ _ (c .if5 .taken))), λ z. absurd (omega arith))
+    let desk = c .before .before .before in
+    (λ kind means. number-13 _ _ kind _ (own (desk .before .before)) (desk .if2 .left) (means .receiver-is ∙ c .before .before .if3 .left) (or-second _ (lt-ltb _ _ (c .if5 .taken))), λ z. absurd (omega arith))
 
 rights-left-requires : tie.Need-rights-left-requires
 rights-left-requires c κs =
-    (omega (arith, (c .before .before .before .if2 .left), desks-most (c .before .before .before .before .before .before .audit-of .ensures) (c .before .before .before .before .before .if1 .left)), left-covered (c .before .before .before .before .before .before .audit-of .ensures) (c .before .before .before .before .before .if1 .left) (sideOf (c .before .before .before .before .before .before .before .args .side)) _ (c .before .before .before .if2 .left))
+    (desk-most (desk-passed c), left-covered (own-passed c .before .audit-of .ensures) (own-passed c .if1 .left) (sideOf (start c .args .side)) _ (desk-passed c .if2 .left))
 
 wide-requires : tie.Need-wide-requires
 wide-requires c κs = search needs
 
 returns-6 : tie.Need-returns-6
 returns-6 c =
-    let args = c .before .before .before .before .before .before .before .before .before .before .args in
-    let less : c .before .before .rights-left .result < args .amount = omega arith in (
-      λ kind means. number-14 _ _ kind _ (passed (c .before .before .before .before .before .before .before .before .before .audit-of .ensures) (c .before .before .before .before .before .before .before .before .if1 .left)) (c .before .before .before .before .before .before .if2 .left) (means .receiver-is ∙ c .before .before .before .before .before .if3 .left) (or-neither (ne-eqb _ 0 (c .before .before .before .before .if4 .left)) (le-ltb _ _ (c .before .before .before .if5 .left)))
-          (rw (means .side-is) (subst (λ (x : ℕ). x < args .amount) (c .before .before .rights-left .ensures ∙ left-is (c .before .before .before .before .before .before .before .before .before .audit-of .ensures) (c .before .before .before .before .before .before .before .before .if1 .left) _ _ (c .before .before .before .before .before .before .if2 .left)) less)),
-      λ z. absurd (omega arith),
-    )
+    let less : c .before .before .rights-left .result < start (c .before .before .before) .args .amount = omega arith in
+    (λ kind means. number-14 (asked (c .before .before .before) means) (left (c .before .before) means) less, λ z. absurd (omega arith))
 
 mul-wide : tie.Need-mul-wide
 mul-wide c = search needs
@@ -63,7 +117,8 @@ mul-wide-2 : tie.Need-mul-wide-2
 mul-wide-2 c = search needs
 
 array-read-wide : tie.Need-array-read-wide
-array-read-wide c = omega (arith, (c .before .before .before .before .before .before .before .if2 .left), desks-most (c .before .before .before .before .before .before .before .before .before .before .audit-of .ensures) (c .before .before .before .before .before .before .before .before .before .if1 .left), c .before .before .before .before .before .before .before .before .before .before .before .pre)
+array-read-wide c =
+    let five = past-rights (c .before) in omega (arith, desk-most (desk-passed five), start five .pre)
 
 wide-requires-2 : tie.Need-wide-requires-2
 wide-requires-2 c κs = search needs
@@ -76,24 +131,21 @@ add-if7 c = search needs
 
 returns-7 : tie.Need-returns-7
 returns-7 c =
-    let args = c .before .before .before .before .before .before .before .before .before .before .before .before .before .before .args in
-    let more : args .amount ≤ c .before .before .before .before .before .before .rights-left .result = omega (arith, c .before .before .before .before .if6 .left, c .before .before .before .before .before .wide .ensures .0) in
-    let over : tallyLimit < getD (args .p .tallies) (args .desk * 18 + args .column) 0 + args .amount
+    let six : tie.Else6 = c .before .before .before .before in
+    let over : tallyLimit < Tally six + start (past-rights six) .args .amount
     = omega (arith, c .if7 .taken, c .before .before .wide2 .ensures .0, c .before .wide3 .ensures .0) in (
-      λ kind means. number-15 _ _ kind _ (passed (c .before .before .before .before .before .before .before .before .before .before .before .before .before .audit-of .ensures) (c .before .before .before .before .before .before .before .before .before .before .before .before .if1 .left)) (c .before .before .before .before .before .before .before .before .before .before .if2 .left) (means .receiver-is ∙ c .before .before .before .before .before .before .before .before .before .if3 .left) (or-neither (ne-eqb _ 0 (c .before .before .before .before .before .before .before .before .if4 .left)) (le-ltb _ _ (c .before .before .before .before .before .before .before .if5 .left))) (rw (means .side-is) (subst (λ (x : ℕ). args .amount ≤ x) (c .before .before .before .before .before .before .rights-left .ensures ∙ left-is (c .before .before .before .before .before .before .before .before .before .before .before .before .before .audit-of .ensures) (c .before .before .before .before .before .before .before .before .before .before .before .before .if1 .left) _ _ (c .before .before .before .before .before .before .before .before .before .before .if2 .left)) more))
-          (rw (tally-at (asRecord (args .p)) (args .desk) kind, means .column-is (passed (c .before .before .before .before .before .before .before .before .before .before .before .before .before .audit-of .ensures) (c .before .before .before .before .before .before .before .before .before .before .before .before .if1 .left)) (c .before .before .before .before .before .before .before .before .before .if3 .left)) over),
+      λ kind means. number-15 (asked (past-rights six) means) (left (six .before .before) means) (enough six) (tally-is six means) over,
       λ z. absurd (omega arith),
     )
 
 returns-8 : tie.Need-returns-8
 returns-8 c =
-    let args = c .before .before .before .before .before .before .before .before .before .before .before .before .before .before .args in
-    let more : args .amount ≤ c .before .before .before .before .before .before .rights-left .result = omega (arith, c .before .before .before .before .if6 .left, c .before .before .before .before .before .wide .ensures .0) in
-    let fits : getD (args .p .tallies) (args .desk * 18 + args .column) 0 + args .amount ≤ tallyLimit
+    let six : tie.Else6 = c .before .before .before .before in
+    let five = past-rights six in
+    let fits : Tally six + start five .args .amount ≤ tallyLimit
     = omega (arith, c .if7 .left, c .before .before .wide2 .ensures .0, c .before .wide3 .ensures .0) in (
-      λ kind means. number-0 _ _ kind _ (passed (c .before .before .before .before .before .before .before .before .before .before .before .before .before .audit-of .ensures) (c .before .before .before .before .before .before .before .before .before .before .before .before .if1 .left)) (c .before .before .before .before .before .before .before .before .before .before .if2 .left) (means .receiver-is ∙ c .before .before .before .before .before .before .before .before .before .if3 .left) (or-neither (ne-eqb _ 0 (c .before .before .before .before .before .before .before .before .if4 .left)) (le-ltb _ _ (c .before .before .before .before .before .before .before .if5 .left))) (rw (means .side-is) (subst (λ (x : ℕ). args .amount ≤ x) (c .before .before .before .before .before .before .rights-left .ensures ∙ left-is (c .before .before .before .before .before .before .before .before .before .before .before .before .before .audit-of .ensures) (c .before .before .before .before .before .before .before .before .before .before .before .before .if1 .left) _ _ (c .before .before .before .before .before .before .before .before .before .before .if2 .left)) more))
-          (rw (tally-at (asRecord (args .p)) (args .desk) kind, means .column-is (passed (c .before .before .before .before .before .before .before .before .before .before .before .before .before .audit-of .ensures) (c .before .before .before .before .before .before .before .before .before .before .before .before .if1 .left)) (c .before .before .before .before .before .before .before .before .before .if3 .left)) fits),
-      λ z. ((passed (c .before .before .before .before .before .before .before .before .before .before .before .before .before .audit-of .ensures) (c .before .before .before .before .before .before .before .before .before .before .before .before .if1 .left)), c .before .before .before .before .before .before .before .before .before .if3 .left, omega (arith, (c .before .before .before .before .before .before .before .before .before .before .if2 .left), desks-most (c .before .before .before .before .before .before .before .before .before .before .before .before .before .audit-of .ensures) (c .before .before .before .before .before .before .before .before .before .before .before .before .if1 .left)), fits),
+      λ kind means. number-0 (asked five means) (left (six .before .before) means) (enough six) (tally-is six means) fits,
+      λ z. (own (own-passed five), five .before .before .if3 .left, desk-most (desk-passed five), fits),
     )
 
 pub act-number-spec : {M : Type 1} → statement M
