@@ -1,20 +1,36 @@
 -- A loop that stores one element of an array after the other, and adds one term of a sum after the other.
 -- Assumes nothing.
-use Prim.Native.Nat.{ℕ, _+_, _≤_, _<_}
+use Prim.Native.Nat.{ℕ, zero, suc, _+_, _≤_, _<_}
 use native.Mathlib.Decide.{ℕ-discrete}
-use native.Mathlib.Nat.{le-of-suc-le-suc, eq-or-lt-of-le}
+use native.Mathlib.Nat.{le-of-suc-le-suc, eq-or-lt-of-le, add-zero}
 use native.Mathlib.Numerals.{add-one}
 use native.Mathlib.Omega.{arith}
-use mathlib.Core.Path.{_≡_, ap, subst, subst⁻¹, sym}
+use mathlib.Core.Path.{_≡_, ap, subst, subst⁻¹, sym, _∙_}
+use mathlib.Core.Bool.{Bool, true}
 use mathlib.Core.Logic.{⊎-elim, by-cases}
 use mathlib.Core.List.{List}
 use lib.ListN.{length, getD, set}
 use lib.Seq.{getD-set-same, getD-set-other}
-use Rattle.rules.specs.Loops.{sum}
+use Rattle.rules.specs.Loops.{sum, every}
+use Rattle.rules.proofs.Tests.{both-ways, every-at, every-all, every-next}
 
 pub sum-next : (k : ℕ) (f : ℕ → ℕ) → sum (k + 1) f ≡ sum k f + f k
 unfolding sum
 sum-next k f = ap (λ (n : ℕ). sum n f) (add-one k)
+
+-- a test that passes one more
+pub every-more : (k : ℕ) (t : ℕ → Bool) → t k ≡ true → every (k + 1) t ≡ every k t
+every-more k t e =
+    both-ways _ _ (λ all. every-all k (λ j l. every-at (k + 1) t all j (omega arith))) (λ all. every-next k t all e)
+
+-- the terms past n are 0
+pub sum-past : (n m : ℕ) (f : ℕ → ℕ) → ((k : ℕ) → k < m → f (n + k) ≡ 0) → sum (n + m) f ≡ sum n f
+unfolding sum
+sum-past n zero f z = ap (λ (k : ℕ). sum k f) (add-zero n)
+sum-past n (suc m) f z =
+    let at : n + suc m ≡ suc (n + m) = omega arith in
+    ap (λ (k : ℕ). sum k f) at ∙ ap (λ (x : ℕ). sum (n + m) f + x) (z m (omega arith)) ∙ add-zero _
+    ∙ sum-past n m f (λ k l. z k (omega arith))
 
 -- what holds of each element below j, and of the one stored at j, holds of each below j + 1
 pub set-next : (P : ℕ → ℕ → Type 0) (l : List ℕ) (j v : ℕ) → ((k : ℕ) → k < j → P k (getD l k 0)) → j < length l → P j v

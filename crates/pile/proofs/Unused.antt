@@ -143,7 +143,7 @@ module _ (r : Record) (n : ℕ) (n≤8 : n ≤ 8) where
       let gives = and-left _ _ (and-right _ _ e) in (
         record {
           earned = subst (λ (x : ℕ). x ≤ tallyLimit) (earned-at r s i) (leb-true _ _ (and-left _ _ e));
-          give = λ j l. subst (λ (x : ℕ). x ≤ tallyLimit) (give-at r s i j) (leb-true _ _ (every-at n _ (and-left _ _ gives) j l));
+          give = λ j l. subst (λ (x : ℕ). x ≤ tallyLimit) (give-at r s i j) (leb-true _ _ (every-at 8 _ (and-left _ _ gives) j (omega arith)));
           self = sym (give-at r s i i) ∙ eqb-true _ _ (and-right _ _ gives);
         },
         from-n n (P .give s i) _ (past-n s i) (and-right _ _ (and-right _ _ e)),
@@ -155,9 +155,12 @@ module _ (r : Record) (n : ℕ) (n≤8 : n ≤ 8) where
   lawful-row s i h g =
       and-both (le-leb _ _ (subst (λ (x : ℕ). x ≤ tallyLimit) (sym (earned-at r s i)) (h .earned)))
       (and-both
-      (and-both (every-all n (λ j l. le-leb _ _ (subst (λ (x : ℕ). x ≤ tallyLimit) (sym (give-at r s i j)) (h .give j l))))
+      (and-both (every-all 8 (λ j l. le-leb _ _ (subst (λ (x : ℕ). x ≤ tallyLimit) (sym (give-at r s i j)) (small j l))))
       (eq-eqb _ _ (give-at r s i i ∙ h .self)))
       (zero-all (8 - n) _ (λ k l. past-n s i k ∙ g (n + k) (omega arith) (omega arith))))
+    where
+      small : (j : ℕ) → j < 8 → P .give s i j ≤ tallyLimit
+      small j j<8 = by-cases (decLt j n) (λ l. h .give j l) (λ l. omega (arith, g j (omega arith) j<8))
 
   abbrev side-right : Side → Bool
   side-right s = every n (rowRight (r .shares) (r .tallies) (sideNumber s) n)

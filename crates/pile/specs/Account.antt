@@ -14,19 +14,20 @@ use Rattle.rules.specs.Pile.{tallyLimit}
 abbrev pub SharesCredited : (shares : List ℕ) (from n total : ℕ) (credit : List ℕ) → Type 0
 SharesCredited shares from n total credit =
     (total ≡ sum n (λ j. getD shares (from + j) 0))
-    × ((j : ℕ) → j < n → (getD credit j 0 ≡ getD shares (from + j) 0) × (getD credit j 0 < 4294967296))
     × (total ≤ 34359738368)
+    × ((j : ℕ) → j < n → getD credit j 0 ≡ getD shares (from + j) 0)
+    × ((j : ℕ) → j < 8 → getD credit j 0 ≤ 4294967296)
 
--- the gives of desk i from a place on: each is within its limit, and the one to itself is 0
-abbrev pub givesRight : (tallies : List ℕ) (at i n : ℕ) → Bool
-givesRight tallies at i n = every n (λ j. leb (getD tallies (at + j) 0) tallyLimit) and eqb (getD tallies (at + i) 0) 0
+-- the gives of desk i from a place on, used or not: each is within its limit, and the one to itself is 0
+abbrev pub givesRight : (tallies : List ℕ) (at i : ℕ) → Bool
+givesRight tallies at i = every 8 (λ j. leb (getD tallies (at + j) 0) tallyLimit) and eqb (getD tallies (at + i) 0) 0
 
 -- what they come to, and the receivers' credit with them
-abbrev pub GivesCredited : (before tallies : List ℕ) (at n made : ℕ) (credit : List ℕ) → Type 0
-GivesCredited before tallies at n made credit =
-    (made ≡ sum n (λ j. getD tallies (at + j) 0))
+abbrev pub GivesCredited : (before tallies : List ℕ) (at made : ℕ) (credit : List ℕ) → Type 0
+GivesCredited before tallies at made credit =
+    (made ≡ sum 8 (λ j. getD tallies (at + j) 0))
     × (made ≤ 8000000000)
-    × ((k : ℕ) → k < n → (getD credit k 0 ≡ getD before k 0 + getD tallies (at + k) 0) × (getD tallies (at + k) 0 ≤ tallyLimit))
+    × ((k : ℕ) → k < 8 → (getD credit k 0 ≡ getD before k 0 + getD tallies (at + k) 0) × (getD tallies (at + k) 0 ≤ tallyLimit))
     × (length credit ≡ 8)
 
 -- where the record's arrays have a desk's share of a side, what earned it rights, what spent them, and its gives
@@ -47,7 +48,7 @@ module _ (shares tallies : List ℕ) (side : ℕ) where
   unfoldable pub rowRight : ℕ → ℕ → Bool
   rowRight n i =
       leb (earnedBy i) tallyLimit
-      and (every n (λ j. leb (givenBy i j) tallyLimit) and eqb (givenBy i i) 0)
+      and (every 8 (λ j. leb (givenBy i j) tallyLimit) and eqb (givenBy i i) 0)
       and every (8 - n) (λ k. eqb (getD tallies (i * 18 + (2 + 8 * side) + n + k) 0) 0)
 
   pub record Accounted (n : ℕ) (right : Bool) (total : ℕ) (credit debit : List ℕ) : Type 0 where

@@ -38,7 +38,7 @@ pub(crate) fn account_of(shares: &[u32], tallies: &[u32], side: usize, n: usize)
             };
         }
         let first = i * 18 + (2 + 8 * side);
-        let gives = credit_gives(credit, tallies, first, i, n);
+        let gives = credit_gives(credit, tallies, first, i);
         let right = gives.right;
         if !right {
             return Account {

@@ -52,40 +52,39 @@ pub(crate) fn credit_shares(shares: &[u32], from: usize, n: usize) -> Shares
     Shares { total, credit }
 }
 
-// The gives of desk i of one side, which stand from a place on: is each within its limit, and none to itself? What they come to, and the
-// receivers' credit with them.
+// The gives of desk i of one side, which stand from a place on, used or not: is each within its limit, and none to itself? What they come to, and
+// the receivers' credit with them.
 pub struct Gives {
     pub right: bool,
     pub made: u64,
     pub credit: [u64; 8],
 }
 
-pub(crate) fn credit_gives(
-    before: [u64; 8],
-    tallies: &[u32],
-    at: usize,
-    i: usize,
-    n: usize,
-) -> Gives
-    requires { ⌜ (n ≤ 8) × (i < n) × (at + 8 ≤ length (now tallies)) × ((k : ℕ) → k < n → getD before k 0 ≤ 1000000000000) ⌝ }
-    ensures right { λ r. ⌜ r .right ≡ givesRight (now (tallies .entry)) at i n ⌝ }
-    ensures credited { λ r. ⌜ (r .right ≡ true → GivesCredited before (now (tallies .entry)) at n (r .made) (r .credit)) ⌝ }
+// All 8 places, and no way out of the loop, so that the compiler does them side by side.
+pub(crate) fn credit_gives(before: [u64; 8], tallies: &[u32], at: usize, i: usize) -> Gives
+    requires { ⌜ (i < 8) × (at + 8 ≤ length (now tallies)) × ((k : ℕ) → k < 8 → getD before k 0 ≤ 1000000000000) ⌝ }
+    ensures right { λ r. ⌜ r .right ≡ givesRight (now (tallies .entry)) at i ⌝ }
+    ensures credited { λ r. ⌜ (r .right ≡ true → GivesCredited before (now (tallies .entry)) at (r .made) (r .credit)) ⌝ }
 {
     let mut credit = before;
     let mut made: u64 = 0;
+    let mut within = true;
     let mut j = 0;
-    while j < n {
+    while j < 8 {
         let give = wide(tallies[at + j]);
         if Pile::TALLY_LIMIT < give {
-            return Gives {
-                right: false,
-                made,
-                credit,
-            };
+            within = false;
         }
         made = made + give;
         credit[j] = credit[j] + give;
         j += 1;
+    }
+    if !within {
+        return Gives {
+            right: false,
+            made,
+            credit,
+        };
     }
     let right = tallies[at + i] == 0;
     Gives {

@@ -8,11 +8,12 @@ use mathlib.Core.Path.{_≡_, refl, sym, ap, ap₂, _∙_}
 use mathlib.Core.Bool.{true, false, false≢true}
 use mathlib.Core.List.{List}
 use lib.ListN.{length, getD, length-set}
-use borrow.Author.Tests.{lt-leb, le-leb, not-true, not-false}
+use lib.Dec.{eqb}
+use borrow.Author.Tests.{lt-leb, le-leb, eqb-true, not-true, not-false}
 use Rattle.rules.specs.Loops.{sum, every}
-use Rattle.rules.proofs.Tests.{and-left-fails, and-right-fails, and-both, every-next, every-stops}
+use Rattle.rules.proofs.Tests.{and-left-fails, and-right-fails, and-both, every-at, every-next, every-stops}
 use Rattle.pile.specs.Account.{shareOf, earnedBy, spentBy, givenBy, rowRight, Accounted}
-use Rattle.pile.proofs.Arrays.{set-next, set-at-most}
+use Rattle.pile.proofs.Arrays.{sum-past, set-next, set-at-most}
 use Rattle.pile.proofs.Credits.{added, credit-step, credit-all}
 use borrow.Author.Needs.{needs}
 use Rattle.pile.proofs.account.account_of.Statement.{statement}
@@ -31,13 +32,21 @@ stopped s m i l e =
       debits = λ t. absurd (false≢true t);
     }
 
+-- the gives of the n desks are all, where the unused ones are 0
+gives-used : (tallies : List ℕ) (at n : ℕ) → n ≤ 8 → every (8 - n) (λ k. eqb (getD tallies (at + n + k) 0) 0) ≡ true
+    → sum 8 (λ j. getD tallies (at + j) 0) ≡ sum n (λ j. getD tallies (at + j) 0)
+gives-used tallies at n n≤8 e =
+    let eight : 8 ≡ n + (8 - n) = omega arith in
+    ap (λ (m : ℕ). sum m (λ j. getD tallies (at + j) 0)) eight
+    ∙ sum-past n (8 - n) _ (λ k l. ap (λ (q : ℕ). getD tallies q 0) (sym (add-assoc at n k)) ∙ eqb-true _ _ (every-at (8 - n) _ e k l))
+
 abbrev Inv-loop : tie.InvT-loop
 Inv-loop shares tallies side n total credit₀ debit₀ i₀ credit debit i =
     (i ≤ n) × (length credit ≡ 8) × (length debit ≡ 8) × (total ≡ sum n (shareOf shares tallies side)) × (total ≤ 34359738368)
     × (every i (rowRight shares tallies side n) ≡ true)
     × ((k : ℕ) → k < n
     → getD credit k 0 ≡ shareOf shares tallies side k + sum i (added (givenBy shares tallies side) (earnedBy shares tallies side) k))
-    × ((k : ℕ) → k < n → getD credit k 0 ≤ 4294967296 + i * 2000000000)
+    × ((k : ℕ) → k < 8 → getD credit k 0 ≤ 4294967296 + i * 2000000000)
     × ((k : ℕ) → k < i → getD debit k 0 ≡ sum n (givenBy shares tallies side k) + spentBy shares tallies side k)
 
 abbrev μ-loop : tie.MeasureT-loop
@@ -64,10 +73,10 @@ loop-holds c =
       search needs,
       search needs,
       opening .0,
-      opening .2,
+      opening .1,
       refl,
-      λ k l. opening .1 k l .0 ∙ sym (add-zero _),
-      λ k l. omega (arith, opening .1 k l .1),
+      λ k l. opening .2 k l ∙ sym (add-zero _),
+      λ k l. omega (arith, opening .3 k l),
       λ k l. absurd (not-suc-le-zero l),
     )
 
@@ -109,7 +118,7 @@ add-first-2 c = search needs
 credit-gives-requires : tie.Need-credit-gives-requires Inv-loop μ-loop
 credit-gives-requires c κs =
     let loop = c .before .before .before .before .loop in
-    (search needs, search needs, omega arith, λ k l. omega (arith, loop .inv .7 k l))
+    (omega arith, omega arith, λ k l. omega (arith, loop .inv .7 k l))
 
 returns-2 : tie.Need-returns-2 Inv-loop μ-loop
 unfolding rowRight
@@ -205,6 +214,9 @@ loop-again c =
     let earned = two .before .before .before .wide in
     let within : earnedBy S T σ (loop .i) ≤ 1000000000 = omega arith in
     let i<8 : loop .i < 8 = omega (arith, entry .pre .1) in
+    let unused = sym (three .before .all-zero .ensures) ∙ not-false _ (three .if3 .left) in
+    let used : sum 8 (givenBy S T σ (loop .i)) ≡ sum (args .n) (givenBy S T σ (loop .i))
+    = gives-used T (loop .i * 18 + (2 + 8 * σ)) (args .n) (omega (arith, entry .pre .1)) unused in
     let stored : getD (row .result .credit) (loop .i) 0 + earned .result ≤ 4294967296 + (loop .i + 1) * 2000000000
     = omega (arith, loop .inv .7 (loop .i) (omega arith), gives .2 (loop .i) (omega arith)) in (
       search needs,
@@ -214,12 +226,12 @@ loop-again c =
       loop .inv .4,
       every-next _ _ (loop .inv .5)
           (and-both (le-leb _ _ within)
-          (and-both (sym (row .ensures .0) ∙ not-false _ (two .if2 .left)) (sym (three .before .all-zero .ensures) ∙ not-false _ (three .if3 .left)))),
+          (and-both (sym (row .ensures .0) ∙ not-false _ (two .if2 .left)) unused)),
       λ k l. credit-step (givenBy S T σ) (earnedBy S T σ) (row .result .credit) (loop .i) k (earned .result) (shareOf S T σ k) (getD (loop .credit) k 0)
-          (omega (arith, gives .3)) (gives .2 k l .0) (loop .inv .6 k l) (earned .ensures .0),
+          (omega (arith, gives .3)) (gives .2 k (omega arith) .0) (loop .inv .6 k l) (earned .ensures .0),
       λ k l. set-at-most (row .result .credit) (loop .i) _ k _ (omega (arith, gives .3)) (omega (arith, loop .inv .7 k l, gives .2 k l)) stored,
       set-next (λ k x. x ≡ sum (args .n) (givenBy S T σ k) + spentBy S T σ k) (loop .debit) (loop .i) _ (loop .inv .8) (omega arith)
-          (ap₂ _+_ (gives .0) (c .before .wide2 .ensures .0)),
+          (ap₂ _+_ (gives .0 ∙ used) (c .before .wide2 .ensures .0)),
     )
 
 returns-4 : tie.Need-returns-4 Inv-loop μ-loop

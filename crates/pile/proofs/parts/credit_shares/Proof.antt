@@ -4,29 +4,26 @@ use Prim.Native.Nat.{ℕ, _+_, _-_, _*_, _≤_, _<_}
 use native.Mathlib.Nat.{not-suc-le-zero}
 use native.Mathlib.Omega.{arith}
 use mathlib.Core.Path.{_≡_, refl, sym, ap₂, _∙_}
-use mathlib.Core.List.{List}
-use lib.ListN.{length, getD}
+use lib.ListN.{length, getD, getD-replicate}
 use Rattle.rules.specs.Loops.{sum}
-use Rattle.pile.proofs.Arrays.{sum-next, set-next}
+use Rattle.pile.proofs.Arrays.{sum-next, set-next, set-at-most}
 use borrow.Author.Needs.{needs}
 use Rattle.pile.proofs.parts.credit_shares.Statement.{statement}
 use Rattle.pile.proofs.parts.credit_shares.Tie as tie
 
--- a desk's credit is its share, which has 4 bytes
-abbrev Credited : List ℕ → ℕ → ℕ → ℕ → Type 0
-Credited shares from k x = (x ≡ getD shares (from + k) 0) × (x < 4294967296)
-
 abbrev Inv-loop : tie.InvT-loop
 Inv-loop shares from n total₀ credit₀ j₀ total credit j =
     (j ≤ n) × (length credit ≡ 8) × (total ≡ sum j (λ k. getD shares (from + k) 0)) × (total ≤ j * 4294967296)
-    × ((k : ℕ) → k < j → Credited shares from k (getD credit k 0))
+    × ((k : ℕ) → k < j → getD credit k 0 ≡ getD shares (from + k) 0)
+    × ((k : ℕ) → k < 8 → getD credit k 0 ≤ 4294967296)
 
 abbrev μ-loop : tie.MeasureT-loop
 μ-loop shares from n total₀ credit₀ j₀ total credit j = n - j
 
 loop-holds : tie.Need-loop-holds Inv-loop μ-loop
 unfolding sum
-loop-holds c = (search needs, search needs, refl, search needs, λ k l. absurd (not-suc-le-zero l))
+loop-holds c =
+    (search needs, search needs, refl, search needs, λ k l. absurd (not-suc-le-zero l), λ k l. omega (arith, getD-replicate {A = ℕ} 8 k 0 0 l))
 
 add-wide : tie.Need-add-wide Inv-loop μ-loop
 add-wide c = search needs
@@ -63,13 +60,15 @@ loop-again c =
       search needs,
       ap₂ _+_ (loop .inv .2) (c .wide .ensures .0) ∙ sym (sum-next _ _),
       omega arith,
-      set-next (Credited (args .shares .now) (args .from)) (loop .credit) (loop .j) (c .wide .result) (loop .inv .4) (omega arith) (c .wide .ensures),
+      set-next (λ k x. x ≡ getD (args .shares .now) (args .from + k) 0) (loop .credit) (loop .j) (c .wide .result) (loop .inv .4) (omega arith)
+          (c .wide .ensures .0),
+      λ k l. set-at-most (loop .credit) (loop .j) (c .wide .result) k 4294967296 (omega arith) (loop .inv .5 k l) (omega arith),
     )
 
 returns : tie.Need-returns Inv-loop μ-loop
 returns c =
     let done : c .before .loop .j ≡ c .before .before .before .args .n = omega arith in
-    (rw done at (c .before .loop .inv .2), rw done at (c .before .loop .inv .4), omega arith)
+    (rw done at (c .before .loop .inv .2), omega arith, rw done at (c .before .loop .inv .4), c .before .loop .inv .5)
 
 pub credit-shares-spec : {M : Type 1} → statement M
 credit-shares-spec =
