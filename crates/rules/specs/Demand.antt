@@ -1,4 +1,4 @@
--- The book as a replica, and so demand 3's claim for the book. The answers and books are those that the contracts cite.
+-- The book as a replica, and so demand 3's claim for the book. The answers and books are those that code on books is to be held to.
 -- Assumes nothing.
 use Prim.Native.Nat.{ℕ, _≤_, _<_}
 use mathlib.Core.Path.{_≡_}

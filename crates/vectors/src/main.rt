@@ -72,7 +72,7 @@ fn refused(g: Pile) {
     line(b"desk 0 gives draw 5 to desk 1", g.give_draw(0, 1, 5));
 }
 
-// Records that are refused as they are, by their own number.
+// Fresh records at their limits and past them, and a record of the largest numbers.
 fn unlawful() {
     let zero = [0u32; 16];
     line(b"no desks", Pile::fresh(0, 0, 0, zero));
