@@ -1,6 +1,6 @@
 -- The lines of the table for an act on a record, each from what leads to it.
 -- Assumes nothing.
-use Prim.Native.Nat.{ℕ, zero, suc, _+_, _*_, _≤_, _<_}
+use Prim.Native.Nat.{ℕ, _+_, _*_, _≤_, _<_}
 use mathlib.Core.Path.{_≡_, refl, ap, sym, subst, _∙_}
 use mathlib.Core.Logic.{_≢_}
 use mathlib.Core.Bool.{true, false, not}
@@ -13,24 +13,19 @@ use Rattle.rules.specs.Pile.{rights, tallyLimit, amountLimit}
 use Rattle.rules.specs.Acts.{Kind, spend, give, side, tally, receiverWrong, actRefusal}
 use Rattle.rules.specs.Layout.{actColumn}
 use Rattle.rules.specs.Record.{Record, recordView, recordAnswer, recordDeskAnswer, recordActAnswer, recordAfterAct}
-use Rattle.rules.proofs.Tests.{when-accepted}
+use Rattle.rules.proofs.Tests.{when-accepted, orElse-stands}
 
 -- the tally of an act stands at its column of the desk's row
 pub tally-at : (r : Record) (i : ℕ) (kind : Kind) → tally (recordView r) i kind ≡ getD (r .tallies) (i * 18 + actColumn 8 kind) 0
 tally-at r i (spend s) = refl
 tally-at r i (give s j) = refl
 
--- a refusal that comes first
-stands : (m a b : ℕ) → m ≢ 0 → (m orElse a) orElse b ≡ m
-unfolding _orElse_
-stands zero a b d = absurd (d refl)
-stands (suc m) a b d = refl
-
 module _ (r : Record) (i : ℕ) (kind : Kind) (t : ℕ) where
   pub own-number : (m : ℕ) → m ≡ recordAnswer r → m ≢ 0 → m ≡ recordActAnswer i kind t r
   unfolding recordActAnswer recordDeskAnswer
   own-number m e d =
-      sym (ap (λ (x : ℕ). (x orElse 11 when not (ltb i (r .n))) orElse actRefusal (r .n) (recordView r) i kind t) (sym e) ∙ stands m _ _ d)
+      let desk = orElse-stands m (11 when not (ltb i (r .n))) d in
+      sym (rw (← e, desk) (orElse-stands m (actRefusal (r .n) (recordView r) i kind t) d))
 
   module _ (passed : recordAnswer r ≡ 0) where
     pub number-11 : r .n ≤ i → 11 ≡ recordActAnswer i kind t r

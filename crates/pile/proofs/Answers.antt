@@ -1,6 +1,6 @@
 -- The replies of the queries on a record, from what leads to each.
 -- Assumes nothing.
-use Prim.Native.Nat.{ℕ, zero, suc, _+_, _≤_, _<_}
+use Prim.Native.Nat.{ℕ, _+_, _≤_, _<_}
 use native.Mathlib.Nat.{suc-ne-zero}
 use mathlib.Core.Path.{_≡_, refl, ap, sym, _∙_}
 use mathlib.Core.Logic.{_≢_}
@@ -11,7 +11,7 @@ use Rattle.rules.specs.Loops.{sum}
 use Rattle.rules.specs.Refusals.{_when_, _orElse_, refused, value, reply}
 use Rattle.rules.specs.Pile.{Side, draw, rights}
 use Rattle.rules.specs.Record.{Record, recordView, recordAnswer, recordDeskAnswer, recordTonnageReply, recordRightsReply}
-use Rattle.rules.proofs.Tests.{when-accepted, when-refused}
+use Rattle.rules.proofs.Tests.{when-accepted, when-refused, orElse-stands}
 use Rattle.rules.proofs.Tonnage.{tonnage-floor}
 use Rattle.rules.proofs.RecordFacts.{record-facts}
 
@@ -23,11 +23,6 @@ refuses m x d = sym (when-refused _ _ _ d)
 gives : (m x : ℕ) → m ≡ 0 → value x ≡ reply m x
 unfolding reply
 gives m x e = sym (when-accepted _ _ _ e)
-
-first-stands : (m rest : ℕ) → m ≢ 0 → m ≡ m orElse rest
-unfolding _orElse_
-first-stands zero rest d = absurd (d refl)
-first-stands (suc m) rest d = refl
 
 module _ (r : Record) where
   pub tonnage-refused : (m : ℕ) → m ≡ recordAnswer r → m ≢ 0 → refused m ≡ recordTonnageReply r
@@ -42,7 +37,7 @@ module _ (r : Record) where
   module _ (s : Side) (i : ℕ) where
     pub rights-refused : (m : ℕ) → m ≡ recordAnswer r → m ≢ 0 → refused m ≡ recordRightsReply s i r
     unfolding recordRightsReply recordDeskAnswer
-    rights-refused m e d = rw (← e, ← first-stands m (11 when not (ltb i (r .n))) d) (refuses m _ d)
+    rights-refused m e d = rw (← e, orElse-stands m (11 when not (ltb i (r .n))) d) (refuses m _ d)
 
     pub rights-11 : recordAnswer r ≡ 0 → r .n ≤ i → refused 11 ≡ recordRightsReply s i r
     unfolding recordRightsReply recordDeskAnswer _when_ _orElse_

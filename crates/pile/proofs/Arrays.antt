@@ -12,7 +12,7 @@ use mathlib.Core.List.{List}
 use lib.ListN.{length, getD, set}
 use lib.Seq.{getD-set-same, getD-set-other}
 use Rattle.rules.specs.Loops.{sum, every}
-use Rattle.rules.proofs.Tests.{both-ways, every-at, every-all, every-next}
+use Rattle.rules.proofs.Tests.{same, every-at, every-all, every-next}
 
 pub sum-next : (k : ℕ) (f : ℕ → ℕ) → sum (k + 1) f ≡ sum k f + f k
 unfolding sum
@@ -21,7 +21,7 @@ sum-next k f = ap (λ (n : ℕ). sum n f) (add-one k)
 -- a test that passes one more
 pub every-more : (k : ℕ) (t : ℕ → Bool) → t k ≡ true → every (k + 1) t ≡ every k t
 every-more k t e =
-    both-ways _ _ (λ all. every-all k (λ j l. every-at (k + 1) t all j (omega arith))) (λ all. every-next k t all e)
+    same _ _ (λ all. every-all k (λ j l. every-at (k + 1) t all j (omega arith))) (λ all. every-next k t all e)
 
 -- the terms past n are 0
 pub sum-past : (n m : ℕ) (f : ℕ → ℕ) → ((k : ℕ) → k < m → f (n + k) ≡ 0) → sum (n + m) f ≡ sum n f

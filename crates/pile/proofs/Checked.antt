@@ -11,7 +11,7 @@ use lib.Dec.{leb}
 use Rattle.rules.specs.Loops.{_and_, sum, every}
 use Rattle.rules.specs.Pile.{Side, draw, tip, other, Pile, credit, debit, lawful}
 use Rattle.rules.specs.Record.{Record, recordView}
-use Rattle.rules.proofs.Tests.{both-ways, and-left, and-right, and-both, every-at, every-all}
+use Rattle.rules.proofs.Tests.{same, and-left, and-right, and-both, every-at, every-all}
 use Rattle.rules.proofs.Sums.{sum-cong}
 use Rattle.rules.proofs.Facts.{both-at, both-all}
 use Rattle.pile.specs.Account.{shareOf, earnedBy, spentBy, givenBy, Accounted}
@@ -63,7 +63,7 @@ module _ (r : Record) where
       → every n (λ i. leb (getD (debits draw) i 0) (getD (credits draw) i 0)) and every n (λ i. leb (getD (debits tip) i 0) (getD (credits tip) i 0)) ≡ lawful n P
   unfolding lawful
   lawful-is n credits debits c d =
-      both-ways _ _
+      same _ _
       (λ e. every-all n (λ i l. both-all (both i l e)))
       (λ e. and-both (every-all n (λ i l. one draw i l (both-at _ (every-at n _ e i l) draw))) (every-all n (λ i l. one tip i l (both-at _ (every-at n _ e i l) tip))))
     where

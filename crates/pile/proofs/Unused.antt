@@ -14,7 +14,7 @@ use Rattle.rules.specs.Loops.{_and_, every}
 use Rattle.rules.specs.Pile.{Side, draw, tip, Pile, tallyLimit, talliesLawful}
 use Rattle.rules.specs.Layout.{column, earnedColumn}
 use Rattle.rules.specs.Record.{Record, recordView, unusedShares, unusedPlaces}
-use Rattle.rules.proofs.Tests.{both-ways, and-left, and-right, and-both, and-left-fails, and-right-fails, every-at, every-all, or-first, or-second, or-other}
+use Rattle.rules.proofs.Tests.{same, and-left, and-right, and-both, and-left-fails, and-right-fails, every-at, every-all, or-first, or-second, or-other}
 use Rattle.rules.proofs.Facts.{both-at, both-all}
 use Rattle.rules.proofs.Body.{by-column, column-below}
 use Rattle.pile.specs.Account.{rowRight}
@@ -48,7 +48,7 @@ module _ (r : Record) (n : ℕ) (n≤8 : n ≤ 8) where
   pub unused-shares : every (8 - n) (λ k. eqb (getD (r .shares) (n + k) 0) 0) and every (8 - n) (λ k. eqb (getD (r .shares) (8 + n + k) 0) 0)
       ≡ unusedShares n P
   unused-shares =
-      both-ways _ _
+      same _ _
       (λ e. shares-all (λ s. both s (and-left _ _ e) (and-right _ _ e)))
       (λ e. and-both (zero-all (8 - n) _ (λ k l. at-draw k ∙ shares-at e draw (n + k) (omega arith) (omega arith)))
       (zero-all (8 - n) _ (λ k l. at-tip k ∙ shares-at e tip (n + k) (omega arith) (omega arith))))
@@ -167,7 +167,7 @@ module _ (r : Record) (n : ℕ) (n≤8 : n ≤ 8) where
 
   -- 6: the tallies are lawful and the unused places 0 exactly where both accounts are right and the rows past n are 0
   pub tallies-right : side-right draw and side-right tip and rest ≡ every n (talliesLawful n P) and unusedPlaces n P
-  tallies-right = both-ways _ _ forth back
+  tallies-right = same _ _ forth back
     where
       side : (s : Side) → side-right draw ≡ true → side-right tip ≡ true → side-right s ≡ true
       side draw d t = d

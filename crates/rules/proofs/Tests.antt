@@ -7,6 +7,7 @@ use mathlib.Core.Path.{_≡_, refl, ap, ap₂, sym, _∙_}
 use mathlib.Core.Logic.{_⊎_, inl, inr, ⊎-elim, _≢_}
 use mathlib.Core.Bool.{Bool, true, false, cond, not, true≢false, false≢true}
 use borrow.Author.Tests.{eq-eqb, ne-eqb, not-true, not-false}
+pub use Rattle.history.proofs.Sets.{same}
 use Rattle.rules.specs.Loops.{_and_, _or_, every, some}
 use Rattle.rules.specs.Refusals.{_when_, _orElse_, first, done}
 
@@ -14,12 +15,6 @@ use Rattle.rules.specs.Refusals.{_when_, _orElse_, first, done}
 pub decided : (b : Bool) → (b ≡ true) ⊎ (b ≡ false)
 decided true = inl refl
 decided false = inr refl
-
--- tests that hold together are equal
-pub both-ways : (a b : Bool) → (a ≡ true → b ≡ true) → (b ≡ true → a ≡ true) → a ≡ b
-both-ways true b f g = sym (f refl)
-both-ways false true f g = g refl
-both-ways false false f g = refl
 
 pub and-left : (a b : Bool) → a and b ≡ true → a ≡ true
 unfolding _and_
@@ -159,6 +154,12 @@ when-done number false e = refl
 
 pub when-not-done : (number : ℕ) (c : Bool) → suc number when not c ≡ 0 → c ≡ true
 when-not-done number c e = not-false c (when-done number (not c) e)
+
+-- a refusal that comes first stands
+pub orElse-stands : (a b : ℕ) → a ≢ 0 → a orElse b ≡ a
+unfolding _orElse_
+orElse-stands zero b d = absurd (d refl)
+orElse-stands (suc a) b d = refl
 
 pub orElse-first : (a b : ℕ) → a orElse b ≡ 0 → a ≡ 0
 unfolding _orElse_
