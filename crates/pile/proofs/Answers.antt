@@ -1,19 +1,16 @@
 -- The replies of the queries on a record, from what leads to each.
 -- Assumes nothing.
-use Prim.Native.Nat.{ℕ, _+_, _≤_, _<_}
+use Prim.Native.Nat.{ℕ, _≤_, _<_}
 use native.Mathlib.Nat.{suc-ne-zero}
 use mathlib.Core.Path.{_≡_, refl, ap, sym, _∙_}
 use mathlib.Core.Logic.{_≢_}
 use mathlib.Core.Bool.{not}
 use lib.Dec.{ltb}
 use borrow.Author.Tests.{lt-ltb, le-ltb}
-use Rattle.rules.specs.Loops.{sum}
 use Rattle.rules.specs.Refusals.{_when_, _orElse_, refused, value, reply}
-use Rattle.rules.specs.Pile.{Side, draw, rights}
+use Rattle.rules.specs.Pile.{Side, rights, tonnage}
 use Rattle.rules.specs.Record.{Record, recordView, recordAnswer, recordDeskAnswer, recordTonnageReply, recordRightsReply}
 use Rattle.rules.proofs.Tests.{when-accepted, when-refused, orElse-stands}
-use Rattle.rules.proofs.Tonnage.{tonnage-floor}
-use Rattle.rules.proofs.RecordFacts.{record-facts}
 
 -- a refusal's number alone
 refuses : (m x : ℕ) → m ≢ 0 → refused m ≡ reply m x
@@ -29,10 +26,9 @@ module _ (r : Record) where
   unfolding recordTonnageReply
   tonnage-refused m e d = rw (← e) (refuses m _ d)
 
-  pub tonnage-value : (x : ℕ) → recordAnswer r ≡ 0 → x ≡ sum (r .n) (rights (r .n) (recordView r) draw) → value (r .floor + x) ≡ recordTonnageReply r
+  pub tonnage-value : (x : ℕ) → recordAnswer r ≡ 0 → x ≡ tonnage (r .n) (recordView r) → value x ≡ recordTonnageReply r
   unfolding recordTonnageReply
-  tonnage-value x e is =
-      ap value (ap (λ (y : ℕ). r .floor + y) is ∙ sym (tonnage-floor (r .n) (recordView r) (record-facts r e))) ∙ gives _ _ e
+  tonnage-value x e is = ap value is ∙ gives _ _ e
 
   module _ (s : Side) (i : ℕ) where
     pub rights-refused : (m : ℕ) → m ≡ recordAnswer r → m ≢ 0 → refused m ≡ recordRightsReply s i r

@@ -5,5 +5,5 @@ pub mod Unused
 pub mod Verdict
 pub mod Sides
 pub mod ActNumber
-pub mod Left
+pub mod Audits
 pub mod Answers

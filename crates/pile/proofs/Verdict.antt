@@ -11,10 +11,13 @@ use borrow.Author.Tests.{leb-true}
 use Rattle.rules.specs.Loops.{_and_, between, every}
 use Rattle.rules.specs.Refusals.{_when_, _orElse_}
 use Rattle.rules.specs.Layout.{deskLimit}
-use Rattle.rules.specs.Pile.{Side, draw, tip, Pile, credit, debit, topLimit, openingLawful, talliesLawful, lawful}
+use Rattle.rules.specs.Pile.{Side, draw, tip, Pile, credit, debit, rights, topLimit, openingLawful, talliesLawful, lawful}
 use Rattle.rules.specs.Record.{Record, recordView, recordAnswer, unusedShares, unusedPlaces}
-use Rattle.rules.proofs.Tests.{and-left, and-right}
-use Rattle.pile.specs.Account.{Accounted}
+use Rattle.rules.proofs.Tests.{and-left, and-right, and-both}
+use Rattle.rules.proofs.Sums.{sum-cong}
+use Rattle.rules.proofs.Tonnage.{tonnage-floor}
+use Rattle.rules.proofs.RecordFacts.{record-facts}
+use Rattle.pile.specs.Account.{Accounted, Balanced}
 use Rattle.pile.specs.View.{Audited, bySide}
 use Rattle.pile.proofs.Checked.{total-is, credit-is, debit-is, lawful-is}
 use Rattle.pile.proofs.Unused.{unused-shares, tallies-right}
@@ -23,18 +26,20 @@ pub in-range : (n : ℕ) → between 1 deskLimit n ≡ true → (1 ≤ n) × (n 
 unfolding between
 in-range n e = (leb-true _ _ (and-left _ _ e), leb-true _ _ (and-right _ _ e))
 
--- a refused record: no account is promised
-refuses : {r : Record} (number : ℕ) {cs ds : Side → List ℕ} → recordAnswer r ≡ suc number → Audited r (suc number) cs ds
-refuses number e =
+-- a refused record: nothing else is promised of it
+refuses : {r : Record} {answer weight : ℕ} {left : Side → List ℕ} (number : ℕ) → answer ≡ suc number → recordAnswer r ≡ suc number
+    → Audited r answer weight left
+refuses number is e =
     record {
-      number-is = sym e;
-      credits-are = λ z. absurd (suc-ne-zero number z);
-      debits-are = λ z. absurd (suc-ne-zero number z);
+      number-is = is ∙ sym e;
+      tonnage-is = λ z. absurd (suc-ne-zero number (sym is ∙ z));
+      rights-are = λ z. absurd (suc-ne-zero number (sym is ∙ z));
     }
 
-pub refused-2 : (r : Record) {cs ds : Side → List ℕ} → between 1 deskLimit (r .n) ≡ false → Audited r 2 cs ds
+pub refused-2 : (r : Record) {answer weight : ℕ} {left : Side → List ℕ} → answer ≡ 2 → between 1 deskLimit (r .n) ≡ false
+    → Audited r answer weight left
 unfolding recordAnswer _when_ _orElse_
-refused-2 r e = refuses 1 (rw e)
+refused-2 r is e = refuses 1 is (rw e)
 
 module _ (r : Record) (range : between 1 deskLimit (r .n) ≡ true) {dright tright : Bool} {dtotal ttotal : ℕ} {dcredit tcredit ddebit tdebit : List ℕ}
     (d : Accounted (r .shares) (r .tallies) 0 (r .n) dright dtotal dcredit ddebit)
@@ -59,9 +64,9 @@ module _ (r : Record) (range : between 1 deskLimit (r .n) ≡ true) {dright trig
       (ap₂ _+_ (total-is r (r .n) draw d) (total-is r (r .n) tip t)))
       (unused-shares r (r .n) n≤8)
 
-  pub refused-5 : {cs ds : Side → List ℕ} → openingTest ≡ false → Audited r 5 cs ds
+  pub refused-5 : {answer weight : ℕ} {left : Side → List ℕ} → answer ≡ 5 → openingTest ≡ false → Audited r answer weight left
   unfolding recordAnswer _when_ _orElse_
-  refused-5 e = refuses 4 (rw (range, sym opening-test ∙ e))
+  refused-5 is e = refuses 4 is (rw (range, sym opening-test ∙ e))
 
   -- 6
   abbrev talliesTest : Bool
@@ -72,9 +77,9 @@ module _ (r : Record) (range : between 1 deskLimit (r .n) ≡ true) {dright trig
       ap₂ (λ (a b : Bool). a and b and every (144 - r .n * 18) (λ k. eqb (getD (r .tallies) (r .n * 18 + k) 0) 0)) (d .rows-right) (t .rows-right)
       ∙ tallies-right r (r .n) n≤8
 
-  pub refused-6 : {cs ds : Side → List ℕ} → openingTest ≡ true → talliesTest ≡ false → Audited r 6 cs ds
+  pub refused-6 : {answer weight : ℕ} {left : Side → List ℕ} → answer ≡ 6 → openingTest ≡ true → talliesTest ≡ false → Audited r answer weight left
   unfolding recordAnswer _when_ _orElse_
-  refused-6 o e = refuses 5 (rw (range, sym opening-test ∙ o, sym tallies-test ∙ e))
+  refused-6 is o e = refuses 5 is (rw (range, sym opening-test ∙ o, sym tallies-test ∙ e))
 
   -- 7, and none
   credits-are : talliesTest ≡ true → (s : Side) (i : ℕ) → i < r .n → getD (bySide dcredit tcredit s) i 0 ≡ credit (r .n) P s i
@@ -91,15 +96,33 @@ module _ (r : Record) (range : between 1 deskLimit (r .n) ≡ true) {dright trig
   rights-test : talliesTest ≡ true → rightsTest ≡ lawful (r .n) P
   rights-test e = lawful-is r (r .n) (bySide dcredit tcredit) (bySide ddebit tdebit) (credits-are e) (debits-are e)
 
-  pub refused-7 : {cs ds : Side → List ℕ} → openingTest ≡ true → talliesTest ≡ true → rightsTest ≡ false → Audited r 7 cs ds
+  pub refused-7 : {answer weight : ℕ} {left : Side → List ℕ} → answer ≡ 7 → openingTest ≡ true → talliesTest ≡ true → rightsTest ≡ false → Audited r answer weight left
   unfolding recordAnswer _when_ _orElse_
-  refused-7 o m e = refuses 6 (rw (range, sym opening-test ∙ o, sym tallies-test ∙ m, sym (rights-test m) ∙ e))
+  refused-7 is o m e = refuses 6 is (rw (range, sym opening-test ∙ o, sym tallies-test ∙ m, sym (rights-test m) ∙ e))
 
-  pub accepted : openingTest ≡ true → talliesTest ≡ true → rightsTest ≡ true → Audited r 0 (bySide dcredit tcredit) (bySide ddebit tdebit)
-  unfolding recordAnswer _when_ _orElse_
-  accepted o m e =
-      record {
-        number-is = rw (range, sym opening-test ∙ o, sym tallies-test ∙ m, sym (rights-test m) ∙ e);
-        credits-are = λ _. credits-are m;
-        debits-are = λ _. debits-are m;
-      }
+  module _ (o : openingTest ≡ true) (m : talliesTest ≡ true) {dlawful tlawful : Bool} {dleft tleft : ℕ} {drights trights : List ℕ}
+      (db : Balanced dcredit ddebit (r .n) dlawful dleft drights) (dl : dlawful ≡ true)
+      (tb : Balanced tcredit tdebit (r .n) tlawful tleft trights) (tl : tlawful ≡ true) where
+    passes : recordAnswer r ≡ 0
+    unfolding recordAnswer _when_ _orElse_
+    passes =
+        let covered = and-both (sym (db .lawful-is) ∙ dl) (sym (tb .lawful-is) ∙ tl) in
+        rw (range, sym opening-test ∙ o, sym tallies-test ∙ m, sym (rights-test m) ∙ covered)
+
+    less : (s : Side) (i : ℕ) → i < r .n
+        → getD (bySide dcredit tcredit s) i 0 - getD (bySide ddebit tdebit s) i 0 ≡ rights (r .n) P s i
+    unfolding rights
+    less s i l = ap₂ _-_ (credits-are m s i l) (debits-are m s i l)
+
+    rights-are : (s : Side) (i : ℕ) → i < r .n → getD (bySide drights trights s) i 0 ≡ rights (r .n) P s i
+    rights-are draw i l = db .rights-are dl i l ∙ less draw i l
+    rights-are tip i l = tb .rights-are tl i l ∙ less tip i l
+
+    pub accepted : {weight : ℕ} → weight ≡ r .floor + dleft → Audited r 0 weight (bySide drights trights)
+    accepted is =
+        record {
+          number-is = sym passes;
+          tonnage-is = λ _. is ∙ ap (λ (x : ℕ). r .floor + x) (db .total-is dl ∙ sum-cong (r .n) (less draw))
+              ∙ sym (tonnage-floor (r .n) P (record-facts r passes));
+          rights-are = λ _. rights-are;
+        }

@@ -57,3 +57,11 @@ module _ (shares tallies : List ℕ) (side : ℕ) where
     pub rows-right : right ≡ every n (rowRight n)
     pub credits : right ≡ true → (i : ℕ) → i < n → getD credit i 0 ≡ shareOf i + earnedBy i + sum n (λ j. givenBy j i)
     pub debits : right ≡ true → (i : ℕ) → i < n → getD debit i 0 ≡ sum n (givenBy i) + spentBy i
+    pub credits-most : right ≡ true → (i : ℕ) → i < 8 → getD credit i 0 ≤ 1000000000000
+
+-- what the debits leave of the credits
+pub record Balanced (credit debit : List ℕ) (n : ℕ) (lawful : Bool) (total : ℕ) (rights : List ℕ) : Type 0 where
+  pub lawful-is : lawful ≡ every n (λ i. leb (getD debit i 0) (getD credit i 0))
+  pub total-is : lawful ≡ true → total ≡ sum n (λ i. getD credit i 0 - getD debit i 0)
+  pub total-most : total ≤ 8000000000000
+  pub rights-are : lawful ≡ true → (i : ℕ) → i < n → getD rights i 0 ≡ getD credit i 0 - getD debit i 0

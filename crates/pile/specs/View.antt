@@ -5,7 +5,7 @@ use mathlib.Core.Path.{_≡_}
 use mathlib.Core.Bool.{Bool, false}
 use mathlib.Core.List.{List}
 use lib.ListN.{getD}
-use Rattle.rules.specs.Pile.{Side, draw, tip, credit, debit}
+use Rattle.rules.specs.Pile.{Side, draw, tip, rights, tonnage}
 use Rattle.rules.specs.Acts.{Kind, side, receiverWrong}
 use Rattle.rules.specs.Layout.{actColumn}
 use Rattle.rules.specs.Record.{Record, recordView, recordAnswer}
@@ -14,11 +14,11 @@ use Rattle.pile.specs.declared.Pile.{Pile}
 abbrev pub asRecord : Pile → Record
 asRecord p = record { n = p .n; floor = p .floor; top = p .top; shares = p .shares; tallies = p .tallies }
 
--- the number of a check, and where it is 0 the credit and the debit of each side and desk
-pub record Audited (r : Record) (number : ℕ) (credits debits : Side → List ℕ) : Type 0 where
+-- the number of a check, and where it is 0 the tonnage and the rights of each side and desk
+pub record Audited (r : Record) (number weight : ℕ) (left : Side → List ℕ) : Type 0 where
   pub number-is : number ≡ recordAnswer r
-  pub credits-are : number ≡ 0 → (s : Side) (i : ℕ) → i < r .n → getD (credits s) i 0 ≡ credit (r .n) (recordView r) s i
-  pub debits-are : number ≡ 0 → (s : Side) (i : ℕ) → i < r .n → getD (debits s) i 0 ≡ debit (r .n) (recordView r) s i
+  pub tonnage-is : number ≡ 0 → weight ≡ tonnage (r .n) (recordView r)
+  pub rights-are : number ≡ 0 → (s : Side) (i : ℕ) → i < r .n → getD (left s) i 0 ≡ rights (r .n) (recordView r) s i
 
 -- by side
 abbrev pub bySide : List ℕ → List ℕ → Side → List ℕ

@@ -1,14 +1,14 @@
 // The account of one side of a record: are its tallies lawful, and what are the credit and the debit of each desk? One pass over the side's numbers
-// finds both for all desks.
+// finds both for all desks; what is left of the credits are their rights.
 use crate::Pile;
 use crate::parts::all_zero;
 use crate::parts::credit_gives;
 use crate::parts::credit_shares;
 use crate::parts::wide;
-ghost use Prim.Native.Nat.{_≤_};
+ghost use Prim.Native.Nat.{ℕ, _≤_, _<_};
 ghost use mathlib.Core.Path.{_≡_};
-ghost use lib.ListN.{length};
-ghost use Rattle.pile.specs.Account.{Accounted};
+ghost use lib.ListN.{length, getD};
+ghost use Rattle.pile.specs.Account.{Accounted, Balanced};
 
 // Are the side's tallies lawful, and its unused gives 0? The sum of its shares; where it is right, each desk's credit and debit.
 pub struct Account {
@@ -66,5 +66,41 @@ pub(crate) fn account_of(shares: &[u32], tallies: &[u32], side: usize, n: usize)
         total,
         credit,
         debit,
+    }
+}
+
+// What each desk has left of one side, its credit less its debit, and what all have: lawful where no debit is above its credit.
+pub struct Balance {
+    pub lawful: bool,
+    pub total: u64,
+    pub rights: [u64; 8],
+}
+
+pub(crate) fn balance_of(account: Account, n: usize) -> Balance
+    requires { ⌜ (n ≤ 8) × ((i : ℕ) → i < 8 → getD (account .credit) i 0 ≤ 1000000000000) ⌝ }
+    ensures { λ r. ⌜ Balanced (account .credit) (account .debit) n (r .lawful) (r .total) (r .rights) ⌝ }
+{
+    let credit = account.credit;
+    let debit = account.debit;
+    let mut rights = [0u64; 8];
+    let mut total: u64 = 0;
+    let mut i = 0;
+    while i < n {
+        if credit[i] < debit[i] {
+            return Balance {
+                lawful: false,
+                total,
+                rights,
+            };
+        }
+        let left = credit[i] - debit[i];
+        rights[i] = left;
+        total = total + left;
+        i += 1;
+    }
+    Balance {
+        lawful: true,
+        total,
+        rights,
     }
 }

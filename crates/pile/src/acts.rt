@@ -3,7 +3,7 @@ use crate::Entered;
 use crate::Pile;
 use crate::check::audit_of;
 use crate::parts::wide;
-use crate::queries::rights_left;
+use crate::queries::rights_at;
 ghost use mathlib.Core.Path.{_≡_};
 ghost use mathlib.Core.Bool.{false, not};
 ghost use Prim.Native.Nat.{_+_, _*_, _≤_, _<_};
@@ -40,7 +40,7 @@ pub(crate) fn act_number(p: Pile, side: u8, desk: u8, wrong: bool, column: usize
         return 13;
     }
     let i = desk as usize;
-    if rights_left(audit, side, i) < wide(amount) {
+    if rights_at(audit, side, i) < wide(amount) {
         return 14;
     }
     let tallies = p.tallies;

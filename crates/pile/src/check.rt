@@ -1,9 +1,8 @@
-// The check of a record: its first refusal, and the two accounts that the check made.
+// The check of a record: its first refusal, and the tonnage and the rights that the check found.
 use crate::Pile;
-use crate::account::Account;
 use crate::account::account_of;
+use crate::account::balance_of;
 use crate::parts::all_zero;
-use crate::parts::covered;
 use crate::parts::wide;
 ghost use mathlib.Core.Path.{_≡_};
 ghost use Prim.Native.Nat.{_+_, _-_, _*_, _≤_};
@@ -14,11 +13,12 @@ ghost use Rattle.rules.specs.Layout.{deskLimit};
 ghost use Rattle.rules.specs.Pile.{topLimit};
 ghost use Rattle.pile.specs.View.{asRecord, Audited, bySide};
 
-// A record's own number, and the account of each side. Where the number is not 0 no account is promised.
+// A record's own number, and where it is 0 the tonnage and each desk's rights of either side.
 pub struct Audit {
     pub number: u8,
-    pub draw: Account,
-    pub tip: Account,
+    pub tonnage: u64,
+    pub draw: [u64; 8],
+    pub tip: [u64; 8],
 }
 
 // 1 to 8 desks.
@@ -65,41 +65,24 @@ pub(crate) fn tallies_right(tallies: &[u32], n: usize, draw: bool, tip: bool) ->
     all_zero(tallies, n * 18, 144 - n * 18)
 }
 
-// No rights are negative, on either side.
-pub(crate) fn rights_right(draw: Account, tip: Account, n: usize) -> bool
-    requires { ⌜ n ≤ 8 ⌝ }
-    ensures { λ r. ⌜ r ≡ every n (λ i. leb (getD (draw .debit) i 0) (getD (draw .credit) i 0)) and every n (λ i. leb (getD (tip .debit) i 0) (getD (tip .credit) i 0)) ⌝ }
+// A refused record: nothing else is promised of it.
+pub(crate) fn refused(number: u8) -> Audit
+    ensures { λ r. ⌜ r .number ≡ number ⌝ }
 {
-    let credit = draw.credit;
-    let debit = draw.debit;
-    if !covered(credit, debit, n) {
-        return false;
-    }
-    let tip_credit = tip.credit;
-    let tip_debit = tip.debit;
-    covered(tip_credit, tip_debit, n)
-}
-
-// An account that nobody reads: it stands beside the refusal of n, for which there are no desks to account for.
-pub(crate) fn blank() -> Account {
-    Account {
-        right: false,
-        total: 0,
-        credit: [0; 8],
-        debit: [0; 8],
+    Audit {
+        number,
+        tonnage: 0,
+        draw: [0; 8],
+        tip: [0; 8],
     }
 }
 
-// The first refusal in the table's order, and where there is none the accounts of both sides.
+// The first refusal in the table's order, and where there is none the tonnage and all rights.
 pub(crate) fn audit_of(p: Pile) -> Audit
-    ensures { λ r. ⌜ Audited (asRecord p) (r .number) (bySide (r .draw .credit) (r .tip .credit)) (bySide (r .draw .debit) (r .tip .debit)) ⌝ }
+    ensures { λ r. ⌜ Audited (asRecord p) (r .number) (r .tonnage) (bySide (r .draw) (r .tip)) ⌝ }
 {
     if !desks_right(p.n) {
-        return Audit {
-            number: 2,
-            draw: blank(),
-            tip: blank(),
-        };
+        return refused(2);
     }
     let n = p.n as usize;
     let shares = p.shares;
@@ -107,29 +90,27 @@ pub(crate) fn audit_of(p: Pile) -> Audit
     let draw = account_of(&shares, &tallies, 0, n);
     let tip = account_of(&shares, &tallies, 1, n);
     if !opening_right(p.floor, p.top, &shares, n, draw.total + tip.total) {
-        return Audit {
-            number: 5,
-            draw,
-            tip,
-        };
+        return refused(5);
     }
     if !tallies_right(&tallies, n, draw.right, tip.right) {
-        return Audit {
-            number: 6,
-            draw,
-            tip,
-        };
+        return refused(6);
     }
-    if !rights_right(draw, tip, n) {
-        return Audit {
-            number: 7,
-            draw,
-            tip,
-        };
+    let draws = balance_of(draw, n);
+    let draws_lawful = draws.lawful;
+    if !draws_lawful {
+        return refused(7);
     }
+    let tips = balance_of(tip, n);
+    let tips_lawful = tips.lawful;
+    if !tips_lawful {
+        return refused(7);
+    }
+    let draw_rights = draws.rights;
+    let tip_rights = tips.rights;
     Audit {
         number: 0,
-        draw,
-        tip,
+        tonnage: wide(p.floor) + draws.total,
+        draw: draw_rights,
+        tip: tip_rights,
     }
 }

@@ -4,7 +4,7 @@ ghost use mathlib.Core.Path.{_≡_};
 ghost use mathlib.Core.Bool.{true};
 ghost use Prim.Native.Nat.{ℕ, _+_, _≤_, _<_};
 ghost use lib.ListN.{length, getD};
-ghost use lib.Dec.{leb, eqb};
+ghost use lib.Dec.{eqb};
 ghost use Rattle.rules.specs.Loops.{every};
 ghost use Rattle.pile.specs.Account.{SharesCredited, givesRight, GivesCredited};
 
@@ -92,19 +92,4 @@ pub(crate) fn credit_gives(before: [u64; 8], tallies: &[u32], at: usize, i: usiz
         made,
         credit,
     }
-}
-
-// Is no desk's debit above its credit?
-pub(crate) fn covered(credit: [u64; 8], debit: [u64; 8], n: usize) -> bool
-    requires { ⌜ n ≤ 8 ⌝ }
-    ensures { λ r. ⌜ r ≡ every n (λ i. leb (getD debit i 0) (getD credit i 0)) ⌝ }
-{
-    let mut i = 0;
-    while i < n {
-        if credit[i] < debit[i] {
-            return false;
-        }
-        i += 1;
-    }
-    true
 }

@@ -16,6 +16,13 @@ pub decided : (b : Bool) → (b ≡ true) ⊎ (b ≡ false)
 decided true = inl refl
 decided false = inr refl
 
+-- a test that is asked with a call, as code does: what the answer tells of it
+pub holds : {answer test : Bool} → answer ≡ test → not answer ≡ false → test ≡ true
+holds e l = sym e ∙ not-false _ l
+
+pub fails : {answer test : Bool} → answer ≡ test → not answer ≡ true → test ≡ false
+fails e t = sym e ∙ not-true _ t
+
 pub and-left : (a b : Bool) → a and b ≡ true → a ≡ true
 unfolding _and_
 and-left true b e = refl

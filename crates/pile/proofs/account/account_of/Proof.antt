@@ -9,9 +9,9 @@ use mathlib.Core.Bool.{true, false, false≢true}
 use mathlib.Core.List.{List}
 use lib.ListN.{length, getD, length-set}
 use lib.Dec.{eqb}
-use borrow.Author.Tests.{lt-leb, le-leb, eqb-true, not-true, not-false}
+use borrow.Author.Tests.{lt-leb, le-leb, eqb-true, not-false}
 use Rattle.rules.specs.Loops.{sum, every}
-use Rattle.rules.proofs.Tests.{and-left-fails, and-right-fails, and-both, every-at, every-next, every-stops}
+use Rattle.rules.proofs.Tests.{holds, fails, and-left-fails, and-right-fails, and-both, every-at, every-next, every-stops}
 use Rattle.pile.specs.Account.{shareOf, earnedBy, spentBy, givenBy, rowRight, Accounted}
 use Rattle.pile.proofs.Arrays.{sum-past, set-next, set-at-most}
 use Rattle.pile.proofs.Credits.{added, credit-step, credit-all}
@@ -30,6 +30,7 @@ stopped s m i l e =
       rows-right = sym (every-stops _ _ i l e);
       credits = λ t. absurd (false≢true t);
       debits = λ t. absurd (false≢true t);
+      credits-most = λ t. absurd (false≢true t);
     }
 
 -- the gives of the n desks are all, where the unused ones are 0
@@ -125,7 +126,7 @@ unfolding rowRight
 returns-2 c =
     let loop = c .before .before .before .before .before .before .loop in
     stopped (loop .inv .3) (loop .inv .4) (loop .i) (search needs)
-    (and-right-fails _ (and-left-fails (sym (c .before .credit-gives .ensures .0) ∙ not-true _ (c .if2 .taken)) _))
+    (and-right-fails _ (and-left-fails (fails (c .before .credit-gives .ensures .0) (c .if2 .taken)) _))
 
 add-all-zero : tie.Need-add-all-zero Inv-loop μ-loop
 add-all-zero c = search needs
@@ -141,7 +142,7 @@ unfolding rowRight
 returns-3 c =
     let loop = head (c .before .before) .loop in
     stopped (loop .inv .3) (loop .inv .4) (loop .i) (search needs)
-    (and-right-fails _ (and-right-fails _ (sym (c .before .all-zero .ensures) ∙ not-true _ (c .if3 .taken))))
+    (and-right-fails _ (and-right-fails _ (fails (c .before .all-zero .ensures) (c .if3 .taken))))
 
 mul-credit : tie.Need-mul-credit Inv-loop μ-loop
 mul-credit c = search needs
@@ -214,7 +215,7 @@ loop-again c =
     let earned = two .before .before .before .wide in
     let within : earnedBy S T σ (loop .i) ≤ 1000000000 = omega arith in
     let i<8 : loop .i < 8 = omega (arith, entry .pre .1) in
-    let unused = sym (three .before .all-zero .ensures) ∙ not-false _ (three .if3 .left) in
+    let unused = holds (three .before .all-zero .ensures) (three .if3 .left) in
     let used : sum 8 (givenBy S T σ (loop .i)) ≡ sum (args .n) (givenBy S T σ (loop .i))
     = gives-used T (loop .i * 18 + (2 + 8 * σ)) (args .n) (omega (arith, entry .pre .1)) unused in
     let stored : getD (row .result .credit) (loop .i) 0 + earned .result ≤ 4294967296 + (loop .i + 1) * 2000000000
@@ -226,7 +227,7 @@ loop-again c =
       loop .inv .4,
       every-next _ _ (loop .inv .5)
           (and-both (le-leb _ _ within)
-          (and-both (sym (row .ensures .0) ∙ not-false _ (two .if2 .left)) unused)),
+          (and-both (holds (row .ensures .0) (two .if2 .left)) unused)),
       λ k l. credit-step (givenBy S T σ) (earnedBy S T σ) (row .result .credit) (loop .i) k (earned .result) (shareOf S T σ k) (getD (loop .credit) k 0)
           (omega (arith, gives .3)) (gives .2 k (omega arith) .0) (loop .inv .6 k l) (earned .ensures .0),
       λ k l. set-at-most (row .result .credit) (loop .i) _ k _ (omega (arith, gives .3)) (omega (arith, loop .inv .7 k l, gives .2 k l)) stored,
@@ -249,6 +250,7 @@ returns-4 c =
       credits = λ _ k l. rw done at (loop .inv .6 k l)
           ∙ ap (λ (x : ℕ). shareOf S T σ k + x) (credit-all (givenBy S T σ) (earnedBy S T σ) (args .n) k l) ∙ sym (add-assoc _ _ _);
       debits = λ _ k l. loop .inv .8 k (omega arith);
+      credits-most = λ _ k l. omega (arith, loop .inv .7 k l, start (c .before) .pre .1);
     }
 
 pub account-of-spec : {M : Type 1} → statement M

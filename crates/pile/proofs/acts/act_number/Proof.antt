@@ -1,4 +1,4 @@
--- `act_number` asks the lines of the table in their order, with what the audit leaves the desk for its rights.
+-- `act_number` asks the lines of the table in their order, with the rights that the audit found.
 -- Assumes nothing.
 use borrow.Author.Needs.{needs}
 use Rattle.pile.proofs.acts.act_number.Statement.{statement}
@@ -14,7 +14,7 @@ use Rattle.rules.specs.Record.{recordView, recordAnswer}
 use Rattle.rules.proofs.Tests.{or-first, or-second, or-neither}
 use Rattle.pile.specs.View.{asRecord, sideOf, Means}
 use Rattle.pile.proofs.ActNumber.{tally-at, own-number, number-11, number-12, number-13, Asked, number-14, number-15, number-0}
-use Rattle.pile.proofs.Left.{passed, desks-most, left-covered, left-is}
+use Rattle.pile.proofs.Audits.{passed, desks-most}
 
 -- the arguments are those of an act of this kind
 abbrev MeansAt : tie.Start → Kind → Type 0
@@ -47,20 +47,20 @@ asked c means =
       amount = or-neither (ne-eqb _ 0 (c .before .if4 .left)) (le-ltb _ _ (c .if5 .left));
     }
 
--- what the audit leaves the desk is its right
-left : (c : tie.After-rights-left) {kind : Kind} → MeansAt (start (c .before)) kind
-    → c .rights-left .result
+-- what the audit has for the desk are its rights
+left : (c : tie.After-rights-at) {kind : Kind} → MeansAt (start (c .before)) kind
+    → c .rights-at .result
     ≡ rights (start (c .before) .args .p .n) (recordView (asRecord (start (c .before) .args .p))) (side kind) (start (c .before) .args .desk)
 left c means =
     rw (means .side-is)
-    (c .rights-left .ensures
-    ∙ left-is (own-passed (c .before) .before .audit-of .ensures) (own-passed (c .before) .if1 .left) (sideOf (start (c .before) .args .side)) _ (desk-passed (c .before) .if2 .left))
+    (c .rights-at .ensures
+    ∙ own-passed (c .before) .before .audit-of .ensures .rights-are (own-passed (c .before) .if1 .left) (sideOf (start (c .before) .args .side)) _ (desk-passed (c .before) .if2 .left))
 
 -- and the number read is the act's tally
 abbrev past-rights : tie.Else6 → tie.Else5
 past-rights c = c .before .before .before
 
-enough : (c : tie.Else6) → start (past-rights c) .args .amount ≤ c .before .before .rights-left .result
+enough : (c : tie.Else6) → start (past-rights c) .args .amount ≤ c .before .before .rights-at .result
 enough c = omega (arith, c .if6 .left, c .before .wide .ensures .0)
 
 abbrev Tally : tie.Else6 → ℕ
@@ -95,16 +95,15 @@ returns-5 c =
     let desk = c .before .before .before in
     (λ kind means. number-13 _ _ kind _ (own (desk .before .before)) (desk .if2 .left) (means .receiver-is ∙ c .before .before .if3 .left) (or-second _ (lt-ltb _ _ (c .if5 .taken))), λ z. absurd (omega arith))
 
-rights-left-requires : tie.Need-rights-left-requires
-rights-left-requires c κs =
-    (desk-most (desk-passed c), left-covered (own-passed c .before .audit-of .ensures) (own-passed c .if1 .left) (sideOf (start c .args .side)) _ (desk-passed c .if2 .left))
+rights-at-requires : tie.Need-rights-at-requires
+rights-at-requires c κs = desk-most (desk-passed c)
 
 wide-requires : tie.Need-wide-requires
 wide-requires c κs = search needs
 
 returns-6 : tie.Need-returns-6
 returns-6 c =
-    let less : c .before .before .rights-left .result < start (c .before .before .before) .args .amount = omega arith in
+    let less : c .before .before .rights-at .result < start (c .before .before .before) .args .amount = omega arith in
     (λ kind means. number-14 (asked (c .before .before .before) means) (left (c .before .before) means) less, λ z. absurd (omega arith))
 
 mul-wide : tie.Need-mul-wide
@@ -158,7 +157,7 @@ act-number-spec =
     returns-3
     returns-4
     returns-5
-    rights-left-requires
+    rights-at-requires
     wide-requires
     returns-6
     mul-wide

@@ -1,21 +1,16 @@
 -- `audit_of` makes the account of each side, and then asks the tests in the table's order.
 -- Assumes nothing.
 use borrow.Author.Needs.{needs}
-use borrow.Author.Tests.{not-true, not-false}
+use borrow.Author.Tests.{not-false}
 use Rattle.pile.proofs.check.audit_of.Statement.{statement}
 use Rattle.pile.proofs.check.audit_of.Tie as tie
-use mathlib.Core.Path.{_≡_, sym, _∙_}
-use mathlib.Core.Bool.{Bool, true, false, not}
+use Prim.Native.Nat.{_+_}
+use mathlib.Core.Path.{_≡_, refl, ap₂}
+use mathlib.Core.Bool.{true}
 use Rattle.rules.specs.Loops.{between}
 use Rattle.rules.specs.Layout.{deskLimit}
+use Rattle.rules.proofs.Tests.{holds, fails, and-left, and-right, and-left-fails, and-right-fails}
 use Rattle.pile.proofs.Verdict.{in-range, refused-2, refused-5, refused-6, refused-7, accepted}
-
--- a test that was answered with a call
-holds : {answer test : Bool} → answer ≡ test → not answer ≡ false → test ≡ true
-holds e l = sym e ∙ not-false _ l
-
-fails : {answer test : Bool} → answer ≡ test → not answer ≡ true → test ≡ false
-fails e t = sym e ∙ not-true _ t
 
 -- The places that the last test comes from: n is in range, each side has its account, and the tests of 5 and of 6 hold.
 range : (c : tie.Else1) → between 1 deskLimit (c .before .before .args .p .n) ≡ true
@@ -36,14 +31,11 @@ opened c = c .before .before
 desks-right-requires : tie.Need-desks-right-requires
 desks-right-requires c κs = search needs
 
-blank-requires : tie.Need-blank-requires
-blank-requires c κs = search needs
-
-blank-requires-2 : tie.Need-blank-requires-2
-blank-requires-2 c κs = search needs
+refused-requires : tie.Need-refused-requires
+refused-requires c κs = search needs
 
 returns : tie.Need-returns
-returns c = refused-2 _ (fails (c .before .before .before .desks-right .ensures) (c .before .before .if1 .taken))
+returns c = refused-2 _ (c .refused .ensures) (fails (c .before .before .desks-right .ensures) (c .before .if1 .taken))
 
 cast-n : tie.Need-cast-n
 cast-n c = search needs
@@ -78,10 +70,14 @@ opening-right-requires : tie.Need-opening-right-requires
 opening-right-requires c κs =
     let one = ranged (drawn (c .before .before .before)) in (in-range _ (range one) .1, search (needs, one .before .before .good .0))
 
+refused-requires-2 : tie.Need-refused-requires-2
+refused-requires-2 c κs = search needs
+
 returns-2 : tie.Need-returns-2
 returns-2 c =
-    let a = accounts (c .before) in
-    refused-5 _ (range (ranged (drawn a))) (drawn a .account-of .ensures) (a .account-of2 .ensures) (fails (c .before .opening-right .ensures) (c .if2 .taken))
+    let a = accounts (c .before .before) in
+    refused-5 _ (range (ranged (drawn a))) (drawn a .account-of .ensures) (a .account-of2 .ensures) (c .refused2 .ensures)
+    (fails (c .before .before .opening-right .ensures) (c .before .if2 .taken))
 
 slice-aggregate-tallies-right : tie.Need-slice-aggregate-tallies-right
 slice-aggregate-tallies-right c = search (needs, ranged (drawn (accounts (c .before .before))) .before .before .good .0)
@@ -91,39 +87,77 @@ tallies-right-requires c κs =
     let one = ranged (drawn (accounts (c .before .before))) in
     (in-range _ (range one) .1, search (needs, one .before .before .good .0))
 
+refused-requires-3 : tie.Need-refused-requires-3
+refused-requires-3 c κs = search needs
+
 returns-3 : tie.Need-returns-3
 returns-3 c =
-    let o = opened (c .before) in
+    let o = opened (c .before .before) in
     let a = accounts (o .before) in
-    refused-6 _ (range (ranged (drawn a))) (drawn a .account-of .ensures) (a .account-of2 .ensures) (holds (o .before .opening-right .ensures) (o .if2 .left))
-    (fails (c .before .tallies-right .ensures) (c .if3 .taken))
+    refused-6 _ (range (ranged (drawn a))) (drawn a .account-of .ensures) (a .account-of2 .ensures) (c .refused3 .ensures)
+    (holds (o .before .opening-right .ensures) (o .if2 .left)) (fails (c .before .before .tallies-right .ensures) (c .before .if3 .taken))
 
-rights-right-requires : tie.Need-rights-right-requires
-rights-right-requires c κs = in-range _ (range (ranged (drawn (accounts (opened (c .before) .before))))) .1
+balance-of-requires : tie.Need-balance-of-requires
+balance-of-requires c κs =
+    let a = accounts (opened (c .before) .before) in
+    (in-range _ (range (ranged (drawn a))) .1, drawn a .account-of .ensures .credits-most (and-left _ _ (holds (c .before .tallies-right .ensures) (c .if3 .left))))
+
+refused-requires-4 : tie.Need-refused-requires-4
+refused-requires-4 c κs = search needs
 
 returns-4 : tie.Need-returns-4
 returns-4 c =
-    let t = c .before .before in
+    let b = c .before .before in
+    let t = b .before in
     let o = opened (t .before) in
     let a = accounts (o .before) in
-    refused-7 _ (range (ranged (drawn a))) (drawn a .account-of .ensures) (a .account-of2 .ensures) (holds (o .before .opening-right .ensures) (o .if2 .left))
-    (holds (t .before .tallies-right .ensures) (t .if3 .left)) (fails (c .before .rights-right .ensures) (c .if4 .taken))
+    refused-7 _ (range (ranged (drawn a))) (drawn a .account-of .ensures) (a .account-of2 .ensures) (c .refused4 .ensures)
+    (holds (o .before .opening-right .ensures) (o .if2 .left)) (holds (t .before .tallies-right .ensures) (t .if3 .left))
+    (and-left-fails (fails (b .balance-of .ensures .lawful-is) (c .before .if4 .taken)) _)
+
+balance-of-requires-2 : tie.Need-balance-of-requires-2
+balance-of-requires-2 c κs =
+    let t = c .before .before in
+    let a = accounts (opened (t .before) .before) in
+    (in-range _ (range (ranged (drawn a))) .1, a .account-of2 .ensures .credits-most (and-left _ _ (and-right _ _ (holds (t .before .tallies-right .ensures) (t .if3 .left)))))
+
+refused-requires-5 : tie.Need-refused-requires-5
+refused-requires-5 c κs = search needs
 
 returns-5 : tie.Need-returns-5
 returns-5 c =
-    let t = c .before .before in
+    let b = c .before .before in
+    let t = b .before .before .before in
     let o = opened (t .before) in
     let a = accounts (o .before) in
-    accepted _ (range (ranged (drawn a))) (drawn a .account-of .ensures) (a .account-of2 .ensures) (holds (o .before .opening-right .ensures) (o .if2 .left))
-    (holds (t .before .tallies-right .ensures) (t .if3 .left)) (holds (c .before .rights-right .ensures) (c .if4 .left))
+    refused-7 _ (range (ranged (drawn a))) (drawn a .account-of .ensures) (a .account-of2 .ensures) (c .refused5 .ensures)
+    (holds (o .before .opening-right .ensures) (o .if2 .left)) (holds (t .before .tallies-right .ensures) (t .if3 .left))
+    (and-right-fails _ (fails (b .balance-of2 .ensures .lawful-is) (c .before .if5 .taken)))
+
+wide-requires : tie.Need-wide-requires
+wide-requires c κs = search needs
+
+add-t28 : tie.Need-add-t28
+add-t28 c = search needs
+
+returns-6 : tie.Need-returns-6
+returns-6 c =
+    let five : tie.Else5 = c .before .before .before .before in
+    let four = five .before .before in
+    let t = four .before .before in
+    let o = opened (t .before) in
+    let a = accounts (o .before) in
+    accepted _ (range (ranged (drawn a))) (drawn a .account-of .ensures) (a .account-of2 .ensures)
+    (holds (o .before .opening-right .ensures) (o .if2 .left)) (holds (t .before .tallies-right .ensures) (t .if3 .left))
+    (four .before .balance-of .ensures) (not-false _ (four .if4 .left)) (five .before .balance-of2 .ensures) (not-false _ (five .if5 .left))
+    (ap₂ _+_ (c .before .wide .ensures .0) refl)
 
 pub audit-of-spec : {M : Type 1} → statement M
 audit-of-spec =
     tie.close
     (tie.spec
     desks-right-requires
-    blank-requires
-    blank-requires-2
+    refused-requires
     returns
     cast-n
     slice-aggregate-account-of
@@ -135,10 +169,18 @@ audit-of-spec =
     slice-aggregate-opening-right
     add-opening-right
     opening-right-requires
+    refused-requires-2
     returns-2
     slice-aggregate-tallies-right
     tallies-right-requires
+    refused-requires-3
     returns-3
-    rights-right-requires
+    balance-of-requires
+    refused-requires-4
     returns-4
-    returns-5)
+    balance-of-requires-2
+    refused-requires-5
+    returns-5
+    wide-requires
+    add-t28
+    returns-6)

@@ -4,8 +4,8 @@ use borrow.Author.Needs.{needs}
 use Rattle.pile.proofs.check.opening_right.Statement.{statement}
 use Rattle.pile.proofs.check.opening_right.Tie as tie
 use mathlib.Core.Path.{sym, _∙_}
-use borrow.Author.Tests.{lt-leb, le-leb, eq-eqb, ne-eqb, not-true, not-false}
-use Rattle.rules.proofs.Tests.{and-left-fails, and-right-fails, and-left-holds, and-both}
+use borrow.Author.Tests.{lt-leb, le-leb, eq-eqb, ne-eqb}
+use Rattle.rules.proofs.Tests.{holds, fails, and-left-fails, and-right-fails, and-left-holds, and-both}
 
 returns : tie.Need-returns
 returns c = sym (and-left-fails (and-left-fails (lt-leb _ _ (c .if1 .taken)) _) _)
@@ -26,7 +26,7 @@ all-zero-requires : tie.Need-all-zero-requires
 all-zero-requires c κs = search needs
 
 returns-4 : tie.Need-returns-4
-returns-4 c = sym (and-right-fails _ (and-left-fails (sym (c .before .all-zero .ensures) ∙ not-true _ (c .if4 .taken)) _))
+returns-4 c = sym (and-right-fails _ (and-left-fails (fails (c .before .all-zero .ensures) (c .if4 .taken)) _))
 
 add-all-zero : tie.Need-add-all-zero
 add-all-zero c = search needs
@@ -40,7 +40,7 @@ all-zero-requires-2 c κs = search needs
 returns-5 : tie.Need-returns-5
 returns-5 c =
     c .all-zero2 .ensures
-    ∙ and-left-holds (sym (c .before .before .all-zero .ensures) ∙ not-false _ (c .before .if4 .left)) _
+    ∙ and-left-holds (holds (c .before .before .all-zero .ensures) (c .before .if4 .left)) _
     ∙ and-left-holds
     (and-both (le-leb _ _ (c .before .before .before .before .before .before .if1 .left))
     (and-both (le-leb _ _ (c .before .before .before .before .before .if2 .left))
