@@ -1,9 +1,10 @@
 // The worked book's pile as a record: F, the acts that make G of it, and what the table refuses on the way and from G. Each line has the act, its
-// number, and then the tonnage and each desk's draw and tip rights of the record that came back.
+// number, and then the tonnage and the draw and tip rights of desks 0, 1 and 2 of the record that came back.
 use libc::STDOUT_FILENO;
 use pile::Amount;
 use pile::Entered;
 use pile::Pile;
+ghost use Prim.Native.Nat.{_<_};
 
 fn text(s: &[u8]) {
     io::write_all(STDOUT_FILENO, s);
@@ -96,8 +97,41 @@ fn unlawful() {
     line(b"the largest numbers", most.tip(0, 1));
 }
 
+// A record of two desks, with one number of it set: desk 0 has 10 draw rights and desk 1 has 10 tip rights.
+fn with_tally(at: usize, tally: u32) -> Pile
+    requires { ⌜ at < 144 ⌝ }
+{
+    let mut tallies = [0u32; 144];
+    tallies[at] = tally;
+    Pile {
+        n: 2,
+        floor: 0,
+        top: 20,
+        shares: [10, 0, 0, 0, 0, 0, 0, 0, 0, 10, 0, 0, 0, 0, 0, 0],
+        tallies,
+    }
+}
+
+// What makes a record's tallies unlawful, and an act that finds its tally full.
+fn tallied() {
+    line(b"no tallies", with_tally(0, 0).give_draw(0, 1, 10));
+    line(
+        b"tipped above its limit",
+        with_tally(0, 1000000001).tip(0, 1),
+    );
+    line(b"a give to oneself", with_tally(2, 1).tip(0, 1));
+    line(b"a give to a desk past n", with_tally(4, 1).tip(0, 1));
+    line(b"a desk past n tipped", with_tally(36, 1).tip(0, 1));
+    line(b"drawn beyond rights", with_tally(19, 1).tip(0, 1));
+    let mut full = with_tally(0, 999999999);
+    full.tallies[1] = 999999999;
+    let full = line(b"desk 0 draws up to the limit", full.draw(0, 1));
+    line(b"desk 0 draws past the limit", full.draw(0, 1));
+}
+
 fn main() {
     let g = worked();
     refused(g);
     unlawful();
+    tallied();
 }
