@@ -13,7 +13,7 @@ use queries::tonnage_of;
 ghost use mathlib.Core.Path.{_≡_};
 ghost use Rattle.rules.specs.Pile.{draw, tip};
 ghost use Rattle.rules.specs.Acts.{spend, give};
-ghost use Rattle.rules.specs.Record.{recordAnswer, freshAnswer, freshRecord, recordTonnageReply, recordRightsReply, recordActAnswer, recordAfterAct};
+ghost use Rattle.rules.specs.Record.{recordAnswer, freshAnswer, freshRecord, zeroRecord, recordTonnageReply, recordRightsReply, recordActAnswer, recordAfterAct};
 ghost use Rattle.pile.specs.View.{asRecord};
 ghost use Rattle.pile.specs.Replies.{asReply};
 
@@ -63,16 +63,23 @@ impl Pile {
         if number != 0 {
             return Entered {
                 number,
-                pile: Pile {
-                    n: 0,
-                    floor: 0,
-                    top: 0,
-                    shares: [0; 16],
-                    tallies: [0; 144],
-                },
+                pile: Pile::zero(),
             };
         }
         Entered { number: 0, pile }
+    }
+
+    // The record of all zeros, which stands beside the number of a refusal.
+    pub fn zero() -> Pile
+        ensures { λ r. ⌜ asRecord r ≡ zeroRecord ⌝ }
+    {
+        Pile {
+            n: 0,
+            floor: 0,
+            top: 0,
+            shares: [0; 16],
+            tallies: [0; 144],
+        }
     }
 
     // The record's own refusal: 2, 5, 6 or 7, or 0.

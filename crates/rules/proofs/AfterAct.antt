@@ -1,52 +1,42 @@
 -- The book after an accepted act is the book with that one pile's act entered, written anew: one number was put, and all others stand apart from it.
 -- Assumes nothing.
-use Prim.Native.Nat.{ℕ, zero, suc, _+_, _≤_, _<_, suc-le-suc}
-use native.Mathlib.Nat.{le-refl, suc-inj}
-use native.Mathlib.Numerals.{lt-of-le-of-ne}
+use Prim.Native.Nat.{ℕ, suc, _+_, _<_, suc-le-suc}
+use native.Mathlib.Nat.{suc-inj}
 use native.Mathlib.Omega.{arith}
 use mathlib.Core.Path.{_≡_, refl, sym, _∙_}
 use mathlib.Core.Logic.{_⊎_, inl, inr, ⊎-elim, ⊎-map, _≢_}
 use mathlib.Core.Bool.{Bool, true, false, cond, true≢false}
 use mathlib.Core.List.{List}
 use lib.Dec.{eqb}
-use borrow.Author.Tests.{eqb-true, eqb-false, ltb-true}
-use Rattle.rules.specs.Loops.{_and_, index}
+use borrow.Author.Tests.{eqb-true, eqb-false}
+use Rattle.rules.specs.Loops.{_and_}
 use Rattle.rules.specs.Pile.{Side, draw, tip, other, Pile}
 use Rattle.rules.specs.Acts.{Kind, spend, give, Act, tally, sameSide, acted}
 use Rattle.rules.specs.Layout.{bodyAt, column, earnedColumn, actColumn, bodyView, desks, piles, pileNumber, pileOf, bookBytes}
-use Rattle.rules.specs.Book.{bookAnswer, place, absent, deskAnswer, actAnswer, tallyAt, afterAct}
-use Rattle.rules.proofs.Tests.{and-fails, when-done, when-not-done, when-accepted, orElse-first, orElse-rest}
+use Rattle.rules.specs.Book.{bookAnswer, place, deskAnswer, actAnswer, tallyAt, afterAct}
+use Rattle.rules.proofs.Tests.{and-fails, when-accepted, orElse-first, orElse-rest}
 use Rattle.rules.proofs.Facts.{PileFacts, facts}
 use Rattle.rules.proofs.Acted.{Receives, ActFacts, act-facts, facts-acted, here, there}
 use Rattle.rules.proofs.Bytes.{Octets}
 use Rattle.rules.proofs.Body.{Agree, column-below}
 use Rattle.rules.proofs.Readable.{book-facts}
+use Rattle.rules.proofs.Found.{found-readable, found-desk, found-place}
 use Rattle.rules.proofs.PutCell.{putCell, Puts, put-cell, put-pile, put-beside, put-written}
-
-index-most : (n : ℕ) (t : ℕ → Bool) → index n t ≤ n
-unfolding index
-index-most zero t = le-refl 0
-index-most (suc n) t = go (t 0) (index-most n (λ k. t (suc k)))
-  where
-    go : (b : Bool) → index n (λ k. t (suc k)) ≤ n → cond b 0 (suc (index n (λ k. t (suc k)))) ≤ suc n
-    go true l = omega arith
-    go false l = suc-le-suc l
 
 -- what an accepted act tells
 module _ (i : ℕ) (a : Act) (b : List ℕ) (accepted : actAnswer i a b ≡ 0) where
+  found : deskAnswer i b (a .pile) ≡ 0
+  unfolding actAnswer
+  found = orElse-first _ _ accepted
+
   pub act-readable : bookAnswer b ≡ 0
-  unfolding actAnswer deskAnswer
-  act-readable = orElse-first _ _ (orElse-first _ _ accepted)
+  act-readable = found-readable i b (a .pile) found
 
   pub act-desk : i < desks b
-  unfolding actAnswer deskAnswer
-  act-desk = ltb-true _ _ (when-not-done _ _ (orElse-first _ _ (orElse-rest _ _ (orElse-first _ _ accepted))))
+  act-desk = found-desk i b (a .pile) found
 
   pub act-pile : place b (a .pile) < piles b
-  unfolding actAnswer deskAnswer absent place
-  act-pile =
-      lt-of-le-of-ne (index-most (piles b) _)
-      (eqb-false _ _ (when-done _ _ (orElse-rest _ _ (orElse-rest _ _ (orElse-first _ _ accepted)))))
+  act-pile = found-place i b (a .pile) found
 
   pub act-allowed : ActFacts (desks b) (pileOf b (place b (a .pile))) i (a .kind) (a .amount)
   unfolding actAnswer

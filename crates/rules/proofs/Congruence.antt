@@ -3,15 +3,16 @@
 use Prim.Native.Nat.{ℕ, zero, suc, _+_, _-_, _≤_, _<_}
 use native.Mathlib.Nat.{le-of-suc-le-suc}
 use mathlib.Core.Path.{_≡_, refl, ap, ap₂, sym, subst, _∙_}
-use mathlib.Core.Bool.{cond}
+use mathlib.Core.Bool.{Bool, cond}
 use mathlib.Core.List.{List, [], _∷_, _++_}
-use lib.Dec.{eqb}
-use Rattle.rules.specs.Loops.{_and_}
+use lib.Dec.{leb, eqb}
+use Rattle.rules.specs.Loops.{_and_, every}
 use Rattle.rules.specs.Numbers.{bytes, encode}
-use Rattle.rules.specs.Pile.{Side, draw, tip, other, Pile, credit, debit, rights, tallyLimit}
+use Rattle.rules.specs.Pile.{Side, draw, tip, other, bothSides, Pile, credit, debit, rights, tallyLimit, lawful, tonnage, openingLawful, talliesLawful, pileAnswer}
 use Rattle.rules.specs.Acts.{Kind, spend, give, side, tally, sameSide, acted}
 use Rattle.rules.specs.Layout.{bodyAt, rowOf, bodyRow, bodyBytes, entryBytes, bookBytes}
 use Rattle.rules.proofs.Sums.{sum-cong}
+use Rattle.rules.proofs.Tests.{every-cong}
 use Rattle.rules.proofs.Facts.{OpeningFacts, PileFacts}
 use Rattle.rules.proofs.Acted.{Receives, ActFacts}
 use Rattle.rules.proofs.Flat.{flat-cong, list-cong}
@@ -54,6 +55,10 @@ row-cong n f g h e d =
     ap₂ (λ (k : ℕ) (r : List ℕ). k ∷ r) e
     (ap₂ (λ (k : ℕ) (r : List ℕ). k ∷ r) d (ap₂ _++_ (list-cong n (h draw)) (list-cong n (h tip))))
 
+both-cong : {t u : Side → Bool} → ((s : Side) → t s ≡ u s) → bothSides t ≡ bothSides u
+unfolding bothSides
+both-cong h = ap₂ _and_ (h draw) (h tip)
+
 module _ (n : ℕ) (p q : Pile) (a : Agree n p q) where
   credit-cong : (s : Side) (i : ℕ) → i < n → credit n p s i ≡ credit n q s i
   unfolding credit
@@ -67,6 +72,30 @@ module _ (n : ℕ) (p q : Pile) (a : Agree n p q) where
   pub rights-cong : (s : Side) (i : ℕ) → i < n → rights n p s i ≡ rights n q s i
   unfolding rights
   rights-cong s i l = ap₂ _-_ (credit-cong s i l) (debit-cong s i l)
+
+  pub tonnage-cong : tonnage n p ≡ tonnage n q
+  unfolding tonnage
+  tonnage-cong = rw (a .floor, sum-cong n (a .share draw), sum-cong n (a .earned draw), sum-cong n (a .earned tip))
+
+  -- the tests, and so the answer
+  pub opening-test-cong : openingLawful n p ≡ openingLawful n q
+  unfolding openingLawful
+  opening-test-cong = rw (a .floor, a .top, sum-cong n (a .share draw), sum-cong n (a .share tip))
+
+  pub tallies-test-cong : every n (talliesLawful n p) ≡ every n (talliesLawful n q)
+  unfolding talliesLawful
+  tallies-test-cong =
+      every-cong n (λ i l. both-cong (λ s. ap₂ _and_ (ap (λ (x : ℕ). leb x tallyLimit) (a .earned s i l))
+      (ap₂ _and_ (every-cong n (λ j m. ap (λ (x : ℕ). leb x tallyLimit) (a .give s i j l m)))
+      (ap (λ (x : ℕ). eqb x 0) (a .give s i i l l)))))
+
+  pub lawful-test-cong : lawful n p ≡ lawful n q
+  unfolding lawful
+  lawful-test-cong = every-cong n (λ i l. both-cong (λ s. ap₂ leb (debit-cong s i l) (credit-cong s i l)))
+
+  pub answer-cong : pileAnswer n p ≡ pileAnswer n q
+  unfolding pileAnswer
+  answer-cong = rw (opening-test-cong, tallies-test-cong, lawful-test-cong)
 
   pub opening-cong : OpeningFacts n p → OpeningFacts n q
   opening-cong o =

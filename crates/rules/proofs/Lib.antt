@@ -27,3 +27,6 @@ pub mod MergeRow
 pub mod Merge
 pub mod BookLaws
 pub mod RecordFacts
+pub mod RecordOf
+pub mod FreshRecord
+pub mod Found

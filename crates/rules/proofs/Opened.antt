@@ -1,18 +1,17 @@
 -- An accepted opening writes a readable book.
 -- Assumes nothing.
 use Prim.Native.Nat.{ℕ, _<_}
-use native.Mathlib.Omega.{arith}
 use mathlib.Core.Path.{_≡_, refl}
 use mathlib.Core.Bool.{true}
 use mathlib.Core.List.{List}
 use borrow.Author.Tests.{leb-true}
 use Rattle.rules.specs.Loops.{between}
-use Rattle.rules.specs.Pile.{openingLawful, credit, debit}
+use Rattle.rules.specs.Pile.{openingLawful}
 use Rattle.rules.specs.Opening.{given, givenPile, openingAnswer, opened}
 use Rattle.rules.specs.Book.{bookAnswer}
 use Rattle.rules.proofs.Tests.{and-left, and-right, when-not-done, orElse-first, orElse-rest, first-at}
-use Rattle.rules.proofs.Sums.{sum-zero}
 use Rattle.rules.proofs.Facts.{PileFacts, opening-facts}
+use Rattle.rules.proofs.FreshRecord.{fresh-lawful}
 use Rattle.rules.proofs.LawfulBook.{Frame, written-readable}
 
 module _ (n p : ℕ) (l : List ℕ) (room : ℕ) (accepted : openingAnswer n p l room ≡ 0) where
@@ -34,15 +33,9 @@ module _ (n p : ℕ) (l : List ℕ) (room : ℕ) (accepted : openingAnswer n p l
       when-not-done _ _ (first-at p _ (orElse-first _ _ (orElse-rest _ _ (orElse-rest _ _ (orElse-rest _ _ accepted)))) k k<p)
 
   pub opened-lawful : (k : ℕ) → k < p → PileFacts n (givenPile n l k)
-  unfolding givenPile credit debit
+  unfolding givenPile
   opened-lawful k k<p =
-      record {
-        opening = opening-facts n (givenPile n l k) (opening-lawful k k<p);
-        earned-limit = λ s i _. omega arith;
-        give-limit = λ s i j _ _. omega arith;
-        give-self = λ s i _. refl;
-        covered = λ s i _. omega (arith, sum-zero n);
-      }
+      fresh-lawful n (givenPile n l k) (λ s i. refl) (λ s i j. refl) (opening-facts n (givenPile n l k) (opening-lawful k k<p))
 
   pub opened-readable : bookAnswer (opened n p l) ≡ 0
   unfolding opened

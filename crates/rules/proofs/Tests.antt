@@ -1,14 +1,15 @@
 -- What a test over the numbers below n tells, what a refusal tells, and the other way round.
 -- Assumes nothing.
-use Prim.Native.Nat.{ℕ, zero, suc, _+_, _<_}
-use native.Mathlib.Nat.{le-refl, le-step, not-suc-le-zero, le-of-suc-le-suc, eq-or-lt-of-le, suc-ne-zero}
+use Prim.Native.Nat.{ℕ, zero, suc, _+_, _≤_, _<_, suc-le-suc}
+use native.Mathlib.Omega.{arith}
+use native.Mathlib.Nat.{le-refl, le-step, not-suc-le-zero, le-of-suc-le-suc, eq-or-lt-of-le, suc-ne-zero, suc-inj}
 use native.Mathlib.Numerals.{add-one}
 use mathlib.Core.Path.{_≡_, refl, ap, ap₂, sym, _∙_}
 use mathlib.Core.Logic.{_⊎_, inl, inr, ⊎-elim, _≢_}
 use mathlib.Core.Bool.{Bool, true, false, cond, not, true≢false, false≢true}
 use borrow.Author.Tests.{eq-eqb, ne-eqb, not-true, not-false}
 pub use Rattle.history.proofs.Sets.{same}
-use Rattle.rules.specs.Loops.{_and_, _or_, every, some}
+use Rattle.rules.specs.Loops.{_and_, _or_, every, some, index}
 use Rattle.rules.specs.Refusals.{_when_, _orElse_, first, done}
 
 -- a Bool is one or the other
@@ -153,6 +154,39 @@ unfolding some
 some-at n t k l e =
     ⊎-elim (λ a. absurd (true≢false (sym e ∙ not-true (t k) (every-at n _ a k l)))) (λ a. ap not a) (decided (every n (λ k. not (t k))))
 
+-- index k t is k where the test fails at every number below k: one number more, and the first at which it holds
+index-past : (n m k : ℕ) (t : ℕ → Bool) → index (suc k) t ≡ suc k
+    → (index k (λ j. t (suc j)) ≡ k → index n (λ j. t (suc j)) ≡ m) → index (suc n) t ≡ suc m
+unfolding index
+index-past n m k t e next = go (t 0) e
+  where
+    go : (b : Bool) → cond b 0 (suc (index k (λ j. t (suc j)))) ≡ suc k → cond b 0 (suc (index n (λ j. t (suc j)))) ≡ suc m
+    go true d = absurd (suc-ne-zero k (sym d))
+    go false d = ap suc (next (suc-inj d))
+
+index-suc : (k : ℕ) (t : ℕ → Bool) → index k t ≡ k → t k ≡ false → index (suc k) t ≡ suc k
+unfolding index
+index-suc zero t e d = ap (λ (b : Bool). cond b 0 1) d
+index-suc (suc k) t e d = index-past (suc k) (suc k) k t e (λ f. index-suc k (λ j. t (suc j)) f d)
+
+pub index-next : (k : ℕ) (t : ℕ → Bool) → index k t ≡ k → t k ≡ false → index (k + 1) t ≡ k + 1
+index-next k t e d = rw (add-one k) (index-suc k t e d)
+
+pub index-stops : (n : ℕ) (t : ℕ → Bool) (k : ℕ) → k < n → index k t ≡ k → t k ≡ true → index n t ≡ k
+unfolding index
+index-stops zero t k l e d = absurd (not-suc-le-zero l)
+index-stops (suc n) t zero l e d = ap (λ (b : Bool). cond b 0 (suc (index n (λ j. t (suc j))))) d
+index-stops (suc n) t (suc k) l e d = index-past n k k t e (λ f. index-stops n (λ j. t (suc j)) k (le-of-suc-le-suc l) f d)
+
+pub index-most : (n : ℕ) (t : ℕ → Bool) → index n t ≤ n
+unfolding index
+index-most zero t = le-refl 0
+index-most (suc n) t = go (t 0) (index-most n (λ k. t (suc k)))
+  where
+    go : (b : Bool) → index n (λ k. t (suc k)) ≤ n → cond b 0 (suc (index n (λ k. t (suc k)))) ≤ suc n
+    go true l = omega arith
+    go false l = suc-le-suc l
+
 -- a line of the table that is not met, and the lines after it
 pub when-done : (number : ℕ) (c : Bool) → suc number when c ≡ 0 → c ≡ false
 unfolding _when_
@@ -167,6 +201,11 @@ pub orElse-stands : (a b : ℕ) → a ≢ 0 → a orElse b ≡ a
 unfolding _orElse_
 orElse-stands zero b d = absurd (d refl)
 orElse-stands (suc a) b d = refl
+
+-- where the lines before it are not met, the rest of the table answers
+pub orElse-passes : {a : ℕ} → a ≡ 0 → (b : ℕ) → a orElse b ≡ b
+unfolding _orElse_
+orElse-passes e b = ap (λ (a : ℕ). a orElse b) e
 
 pub orElse-first : (a b : ℕ) → a orElse b ≡ 0 → a ≡ 0
 unfolding _orElse_
@@ -197,6 +236,19 @@ pub first-none : (n : ℕ) {f : ℕ → ℕ} → ((k : ℕ) → k < n → f k �
 unfolding first _orElse_
 first-none zero h = refl
 first-none (suc n) h = ap₂ _orElse_ (first-none n (λ k l. h k (le-step l))) (h n (le-refl (suc n)))
+
+-- one number more, as a program's loop counts, and the first that is refused
+pub first-next : (k : ℕ) (f : ℕ → ℕ) → first k f ≡ 0 → f k ≡ 0 → first (k + 1) f ≡ 0
+unfolding first
+first-next k f e d = ap (λ (n : ℕ). first n f) (add-one k) ∙ none-met e d
+
+pub first-stops : (n : ℕ) (f : ℕ → ℕ) (k : ℕ) → k < n → first k f ≡ 0 → f k ≢ 0 → first n f ≡ f k
+unfolding first
+first-stops zero f k l e d = absurd (not-suc-le-zero l)
+first-stops (suc n) f k l e d =
+    ⊎-elim (λ q. orElse-passes (ap (λ (j : ℕ). first j f) (sym q) ∙ e) (f n) ∙ ap f (sym q))
+    (λ m. let own = first-stops n f k m e d in orElse-stands (first n f) (f n) (λ z. d (sym own ∙ z)) ∙ own)
+    (eq-or-lt-of-le (le-of-suc-le-suc l))
 
 -- what a call leaves where it is answered 0, and where it is refused
 pub when-accepted : {A : Type 0} (answer : ℕ) (after before : A) → answer ≡ 0 → done answer after before ≡ after

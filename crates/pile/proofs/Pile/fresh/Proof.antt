@@ -11,9 +11,14 @@ use Rattle.rules.proofs.Refused.{fresh-refused}
 check-requires : tie.Need-check-requires
 check-requires c κs = search needs
 
+zero-requires : tie.Need-zero-requires
+zero-requires c κs = search needs
+
 returns : tie.Need-returns
 unfolding freshAnswer
-returns c = (c .before .check .ensures, sym (fresh-refused _ _ _ _ (λ z. c .if1 .taken (c .before .check .ensures ∙ z))))
+returns c =
+    let e = c .before .before .check .ensures in
+    (e, c .zero .ensures ∙ sym (fresh-refused _ _ _ _ (λ z. c .before .if1 .taken (e ∙ z))))
 
 returns-2 : tie.Need-returns-2
 unfolding freshAnswer freshRecord
@@ -22,4 +27,4 @@ returns-2 c =
     (e, sym (when-accepted _ _ _ (sym e)))
 
 pub fresh-spec : {M : Type 1} → statement M
-fresh-spec = tie.close (tie.spec check-requires returns returns-2)
+fresh-spec = tie.close (tie.spec check-requires zero-requires returns returns-2)

@@ -1,0 +1,41 @@
+-- A body is short, so that no position in a book wraps; nor does one in the list that a book is opened from.
+-- Assumes nothing.
+use Prim.Native.Nat.{ℕ, _+_, _*_, _≤_, _<_}
+use native.Mathlib.Nat.{mul-le-mul, mul-le-mul-right}
+use mathlib.Core.Path.{_≡_}
+use native.Mathlib.Omega.{arith}
+use Rattle.rules.specs.Layout.{bodyLength, bodyAt, bookLength, deskLimit, pileLimit}
+
+pub body-most : (n : ℕ) → n ≤ deskLimit → bodyLength n ≤ 648
+unfolding bodyLength
+body-most n l =
+    let high : n + 1 ≤ 9 = omega arith in
+    omega (arith, mul-le-mul high high)
+
+-- row r, and all before it, lie within a body
+pub row-within : (n r : ℕ) → r ≤ n → r * (8 * (n + 1)) + 8 * (n + 1) ≤ bodyLength n
+unfolding bodyLength
+row-within n r l = omega (arith, mul-le-mul-right (8 * (n + 1)) l)
+
+-- bodies follow each other, and body k lies within the book
+pub body-next : (n p k : ℕ) → bodyAt n p (k + 1) ≡ bodyAt n p k + bodyLength n
+unfolding bodyAt
+body-next n p k = omega arith
+
+pub body-within : (n p k : ℕ) → k < p → bodyAt n p k + bodyLength n ≤ bookLength n p
+unfolding bodyAt bookLength
+body-within n p k l = omega (arith, mul-le-mul-right (bodyLength n) l)
+
+-- so does the contents
+pub contents-within : (n p : ℕ) → 4 + p * 6 ≤ bookLength n p
+unfolding bodyAt bookLength
+contents-within n p = omega arith
+
+-- the numbers of the piles before pile k, and that its own follow them
+pub given-most : (n k : ℕ) → n ≤ deskLimit → k ≤ pileLimit → k * (3 + 2 * n) ≤ 608
+given-most n k l m =
+    let high : 3 + 2 * n ≤ 19 = omega arith in
+    mul-le-mul m high
+
+pub given-within : (n : ℕ) {k p : ℕ} → k < p → (k + 1) * (3 + 2 * n) ≤ p * (3 + 2 * n)
+given-within n l = omega (arith, mul-le-mul-right (3 + 2 * n) l)

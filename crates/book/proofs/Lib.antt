@@ -1,0 +1,5 @@
+pub mod Lengths
+pub mod Loaded
+pub mod Saved
+pub mod Numbers
+pub mod Replies

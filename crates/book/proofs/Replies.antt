@@ -1,0 +1,75 @@
+-- What the queries of a book reply, from the answer that found the pile and from the record at its place.
+-- Assumes nothing.
+use Prim.Native.Nat.{ℕ, _<_}
+use mathlib.Core.Path.{_≡_, ap, sym, subst⁻¹, _∙_}
+use mathlib.Core.Logic.{_≢_}
+use mathlib.Core.List.{List, []}
+use Rattle.rules.specs.Refusals.{refused, reply}
+use Rattle.rules.specs.Numbers.{part}
+use Rattle.rules.specs.Pile.{Side}
+use Rattle.rules.specs.Layout.{bodyLength, desks, piles, position, pileOf}
+use Rattle.rules.specs.Book.{bookAnswer, place, fetchAnswer, deskAnswer, bodyPart, tonnageReply, rightsReply}
+use Rattle.rules.specs.Record.{Record, zeroRecord, recordOf, recordTonnageReply, recordRightsReply, fetched}
+use Rattle.rules.proofs.Tests.{when-accepted, when-refused}
+use Rattle.rules.proofs.Refused.{fetch-refused, body-refused}
+use Rattle.rules.proofs.Found.{found-readable, found-desk, found-place, desk-0-fetch, body-tonnage, body-rights}
+
+module _ (i : ℕ) (b : List ℕ) (number : ℕ) {m : ℕ} (answer : m ≡ deskAnswer i b number) where
+  -- the pile was not found
+  module _ (d : m ≢ 0) where
+    refuses : deskAnswer i b number ≢ 0
+    refuses z = d (answer ∙ z)
+
+    pub rights-refused : (s : Side) → refused m ≡ rightsReply s i b number
+    unfolding rightsReply reply
+    rights-refused s = ap refused answer ∙ sym (when-refused _ _ _ refuses)
+
+  -- the pile was found, at place k
+  module _ (z : m ≡ 0) {k : ℕ} (at : k ≡ place b number) where
+    found : deskAnswer i b number ≡ 0
+    found = sym answer ∙ z
+
+    pub place-is : (bookAnswer b ≡ 0) × (k < piles b)
+    place-is = (found-readable i b number found, subst⁻¹ (λ (k : ℕ). k < piles b) at (found-place i b number found))
+
+    pub rights-found : (s : Side) {r : Record} → r ≡ recordOf (desks b) (pileOf b k) → recordRightsReply s i r ≡ rightsReply s i b number
+    unfolding rightsReply reply
+    rights-found s is =
+        rw (is, at) (body-rights b (place b number) (found-readable i b number found) (found-place i b number found) s i (found-desk i b number found))
+        ∙ sym (when-accepted _ _ _ found)
+
+module _ (b : List ℕ) (number : ℕ) {m : ℕ} (answer : m ≡ deskAnswer 0 b number) where
+  pub fetch-is : m ≡ fetchAnswer b number
+  fetch-is = answer ∙ desk-0-fetch b number
+
+  module _ (d : m ≢ 0) where
+    not-fetched : fetchAnswer b number ≢ 0
+    not-fetched z = d (fetch-is ∙ z)
+
+    pub record-refused : zeroRecord ≡ fetched b number
+    record-refused = sym (fetch-refused b number not-fetched)
+
+    pub part-refused : [] ≡ bodyPart b number
+    part-refused = sym (body-refused b number not-fetched)
+
+    pub tonnage-refused : refused m ≡ tonnageReply b number
+    unfolding tonnageReply reply
+    tonnage-refused = ap refused fetch-is ∙ sym (when-refused _ _ _ not-fetched)
+
+  module _ (z : m ≡ 0) {k : ℕ} (at : k ≡ place b number) where
+    fetchable : fetchAnswer b number ≡ 0
+    fetchable = sym fetch-is ∙ z
+
+    pub record-found : {r : Record} → r ≡ recordOf (desks b) (pileOf b k) → r ≡ fetched b number
+    unfolding fetched
+    record-found is = rw (is, at) (sym (when-accepted _ _ _ fetchable))
+
+    pub part-found : {from size : ℕ} → from ≡ position b k → size ≡ bodyLength (desks b) → part from size b ≡ bodyPart b number
+    unfolding bodyPart
+    part-found from size = rw (from, size, at) (sym (when-accepted _ _ _ fetchable))
+
+    pub tonnage-found : {r : Record} → r ≡ recordOf (desks b) (pileOf b k) → recordTonnageReply r ≡ tonnageReply b number
+    unfolding tonnageReply reply
+    tonnage-found is =
+        rw (is, at) (let l = place-is 0 b number answer z at in body-tonnage b (place b number) (l .0) (subst⁻¹ (λ (j : ℕ). j < piles b) (sym at) (l .1)))
+        ∙ sym (when-accepted _ _ _ fetchable)

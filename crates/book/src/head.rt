@@ -1,0 +1,77 @@
+// The head and the contents of a book.
+use crate::layout::body_at;
+use number::get2;
+use number::get4;
+use pile::Pile;
+ghost use mathlib.Core.Path.{_≡_};
+ghost use Prim.Native.Nat.{_+_, _*_, _≤_};
+ghost use lib.ListN.{length};
+ghost use lib.Dec.{eqb};
+ghost use Rattle.rules.specs.Loops.{_and_, every, index};
+ghost use Rattle.rules.specs.Layout.{bodyAt, pileNumber, position};
+ghost use Rattle.rules.specs.Opening.{rising};
+ghost use Rattle.rules.specs.Book.{headRight};
+
+// A book's version, and the most piles of one.
+const VERSION: u8 = 1;
+
+pub(crate) const PILES: u8 = 32;
+
+// Version 1, 1 to 8 desks, 1 to 32 piles, 0.
+pub(crate) fn head_right(book: &[u8]) -> bool
+    requires { ⌜ 4 ≤ length (now book) ⌝ }
+    ensures { λ r. ⌜ r ≡ headRight (now (book .entry)) ⌝ }
+{
+    if book[0] != VERSION {
+        return false;
+    }
+    if book[1] < 1 {
+        return false;
+    }
+    if Pile::DESKS < book[1] {
+        return false;
+    }
+    if book[2] < 1 {
+        return false;
+    }
+    if PILES < book[2] {
+        return false;
+    }
+    book[3] == 0
+}
+
+// Pile numbers rise from above 0, and each position is where its body starts.
+pub(crate) fn contents_right(book: &[u8], n: usize, p: usize) -> bool
+    requires { ⌜ (n ≤ 8) × (p ≤ 32) × (4 + p * 6 ≤ length (now book)) ⌝ }
+    ensures { λ r. ⌜ r ≡ rising p (pileNumber (now (book .entry))) and every p (λ k. eqb (position (now (book .entry)) k) (bodyAt n p k)) ⌝ }
+{
+    let mut last: u16 = 0;
+    let mut k = 0;
+    while k < p {
+        let number = get2(book, 4 + k * 6);
+        if number <= last {
+            return false;
+        }
+        if get4(book, 6 + k * 6) as usize != body_at(n, p, k) {
+            return false;
+        }
+        last = number;
+        k += 1;
+    }
+    true
+}
+
+// Where a pile number stands in the contents; p where it is absent.
+pub(crate) fn place_of(book: &[u8], p: usize, number: u16) -> usize
+    requires { ⌜ (p ≤ 32) × (4 + p * 6 ≤ length (now book)) ⌝ }
+    ensures { λ r. ⌜ r ≡ index p (λ k. eqb (pileNumber (now (book .entry)) k) number) ⌝ }
+{
+    let mut k = 0;
+    while k < p {
+        if get2(book, 4 + k * 6) == number {
+            return k;
+        }
+        k += 1;
+    }
+    p
+}

@@ -1,0 +1,87 @@
+// The first refusal of an opening.
+use crate::given::given_pile;
+use crate::head::PILES;
+use crate::layout::body_at;
+use pile::Pile;
+ghost use mathlib.Core.Path.{_≡_};
+ghost use mathlib.Core.Bool.{not};
+ghost use Prim.Native.Nat.{_+_, _*_, _≤_};
+ghost use lib.ListN.{length};
+ghost use Rattle.rules.specs.Refusals.{_when_, first};
+ghost use Rattle.rules.specs.Pile.{openingLawful};
+ghost use Rattle.rules.specs.Opening.{rising, given, givenPile, openingAnswer};
+
+// The highest pile number.
+const LAST_NUMBER: u32 = 65535;
+
+// Do the list's pile numbers rise from above 0, none above the highest?
+pub(crate) fn numbers_rise(numbers: &[u32], n: usize, p: usize) -> bool
+    requires { ⌜ (n ≤ 8) × (p ≤ 32) × (p * (3 + 2 * n) ≤ length (now numbers)) ⌝ }
+    ensures { λ r. ⌜ r ≡ rising p (λ k. given n (now (numbers .entry)) k 0) ⌝ }
+{
+    let mut last: u32 = 0;
+    let mut k = 0;
+    while k < p {
+        let number = numbers[k * (3 + 2 * n)];
+        if number <= last {
+            return false;
+        }
+        if LAST_NUMBER < number {
+            return false;
+        }
+        last = number;
+        k += 1;
+    }
+    true
+}
+
+// 5 where the opening of a pile is unlawful.
+pub(crate) fn openings_number(numbers: &[u32], n: u8, p: usize) -> u8
+    requires { ⌜ (1 ≤ n) × (n ≤ 8) × (p ≤ 32) × (p * (3 + 2 * n) ≤ length (now numbers)) ⌝ }
+    ensures { λ r. ⌜ r ≡ first p (λ k. 5 when not (openingLawful n (givenPile n (now (numbers .entry)) k))) ⌝ }
+{
+    let mut k = 0;
+    while k < p {
+        let given = given_pile(numbers, n, k);
+        let number = given.number;
+        if number != 0 {
+            return number;
+        }
+        k += 1;
+    }
+    0
+}
+
+// All lines of the table, in their order.
+pub(crate) fn opening_number(n: u8, p: u8, numbers: &[u32], room: usize) -> u8
+    ensures { λ r. ⌜ r ≡ openingAnswer n p (now (numbers .entry)) room ⌝ }
+{
+    if n < 1 {
+        return 2;
+    }
+    if Pile::DESKS < n {
+        return 2;
+    }
+    if p < 1 {
+        return 2;
+    }
+    if PILES < p {
+        return 2;
+    }
+    let desks = n as usize;
+    let piles = p as usize;
+    if numbers.len() != piles * (3 + 2 * desks) {
+        return 3;
+    }
+    if !numbers_rise(numbers, desks, piles) {
+        return 4;
+    }
+    let number = openings_number(numbers, n, piles);
+    if number != 0 {
+        return number;
+    }
+    if room < body_at(desks, piles, piles) {
+        return 8;
+    }
+    0
+}

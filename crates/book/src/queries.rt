@@ -1,0 +1,24 @@
+// Rights of a desk. The side is a parameter: 0 for draw and 1 for tip.
+use crate::find::find;
+use crate::find::load_body;
+use pile::Amount;
+ghost use mathlib.Core.Path.{_≡_};
+ghost use Rattle.rules.specs.Book.{rightsReply};
+ghost use Rattle.pile.specs.View.{sideOf};
+ghost use Rattle.pile.specs.Replies.{asReply};
+
+pub(crate) fn rights_of(book: &[u8], side: u8, number: u16, desk: u8) -> Amount
+    ensures { λ r. ⌜ asReply r ≡ rightsReply (sideOf side) desk (now (book .entry)) number ⌝ }
+{
+    let found = find(book, desk, number);
+    let refusal = found.number;
+    if refusal != 0 {
+        return Amount::Refused(refusal);
+    }
+    let k = found.place;
+    let pile = load_body(book, k);
+    if side == 0 {
+        return pile.draw_rights(desk);
+    }
+    pile.tip_rights(desk)
+}

@@ -1,0 +1,54 @@
+// Is a book readable? The first refusal of its bytes and bodies.
+use crate::head::contents_right;
+use crate::head::head_right;
+use crate::layout::body_at;
+use crate::layout::body_length;
+use crate::load::load;
+ghost use mathlib.Core.Path.{_≡_};
+ghost use Prim.Native.Nat.{_≤_};
+ghost use lib.ListN.{length};
+ghost use Rattle.rules.specs.Refusals.{first};
+ghost use Rattle.rules.specs.Pile.{pileAnswer};
+ghost use Rattle.rules.specs.Layout.{bodyView, bodyAt, bookLength};
+ghost use Rattle.rules.specs.Book.{bookAnswer};
+
+// The first refusal of a body, in file order: each is loaded, and the record's own check is asked.
+pub(crate) fn bodies_number(book: &[u8], n: u8, p: usize) -> u8
+    requires { ⌜ (1 ≤ n) × (n ≤ 8) × (p ≤ 32) × (length (now book) ≡ bookLength n p) ⌝ }
+    ensures { λ r. ⌜ r ≡ first p (λ k. pileAnswer n (bodyView n (now (book .entry)) (bodyAt n p k))) ⌝ }
+{
+    let size = body_length(n as usize);
+    let mut at = body_at(n as usize, p, 0);
+    let mut k = 0;
+    while k < p {
+        let pile = load(book, n, at);
+        let number = pile.check();
+        if number != 0 {
+            return number;
+        }
+        at += size;
+        k += 1;
+    }
+    0
+}
+
+// A book's own number: head, length and contents, and then its bodies.
+pub(crate) fn book_number(book: &[u8]) -> u8
+    ensures { λ r. ⌜ r ≡ bookAnswer (now (book .entry)) ⌝ }
+{
+    if book.len() < 4 {
+        return 1;
+    }
+    if !head_right(book) {
+        return 2;
+    }
+    let n = book[1];
+    let p = book[2] as usize;
+    if book.len() != body_at(n as usize, p, p) {
+        return 3;
+    }
+    if !contents_right(book, n as usize, p) {
+        return 4;
+    }
+    bodies_number(book, n, p)
+}

@@ -1,0 +1,55 @@
+// A pile record written as a body of the book.
+use number::put4;
+use pile::Pile;
+ghost use mathlib.Core.Path.{_≡_};
+ghost use Prim.Native.Nat.{_+_, _*_, _≤_};
+ghost use mathlib.Core.List.{_++_};
+ghost use lib.ListN.{length, getD};
+ghost use lib.Seq.{sets};
+ghost use Rattle.rules.specs.Loops.{flat, list};
+ghost use Rattle.rules.specs.Numbers.{encode};
+ghost use Rattle.rules.specs.Layout.{rowLength, bodyLength, bodyBytes};
+ghost use Rattle.rules.specs.Record.{recordView};
+ghost use Rattle.pile.specs.View.{asRecord};
+
+// Writes count numbers of an array, from a place on, into the book from a position on.
+pub(crate) fn put_run(book: &mut [u8], at: usize, numbers: &[u32], from: usize, count: usize)
+    requires { ⌜ (at + count * 4 ≤ length (now book)) × (from + count ≤ length (now numbers)) ⌝ }
+    ensures { λ _. ⌜ now (book .exit) ≡ sets (now (book .entry)) at (encode (list count (λ k. getD (now (numbers .entry)) (from + k) 0))) ⌝ }
+{
+    let mut k = 0;
+    while k < count {
+        put4(book, at + k * 4, numbers[from + k]);
+        k += 1;
+    }
+}
+
+// Writes the rows of n desks, out of 8 rows of tallies, at a position.
+fn save_rows(book: &mut [u8], at: usize, n: usize, tallies: &[u32])
+    requires { ⌜ (n ≤ 8) × (at + n * rowLength n ≤ length (now book)) × (length (now tallies) ≡ 144) ⌝ }
+    ensures { λ _. ⌜ now (book .exit) ≡ sets (now (book .entry)) at (flat n (λ i. encode
+        (list (2 + n) (λ k. getD (now (tallies .entry)) (i * 18 + k) 0) ++ list n (λ k. getD (now (tallies .entry)) (i * 18 + 10 + k) 0)))) ⌝ }
+{
+    let row = 8 * (n + 1);
+    let mut i = 0;
+    while i < n {
+        let to = at + i * row;
+        put_run(book, to, tallies, i * 18, 2 + n);
+        put_run(book, to + 8 + 4 * n, tallies, i * 18 + 10, n);
+        i += 1;
+    }
+}
+
+// Writes the body of a pile of n desks at a position.
+pub(crate) fn save(book: &mut [u8], at: usize, n: usize, pile: Pile)
+    requires { ⌜ (n ≤ 8) × (at + bodyLength n ≤ length (now book)) ⌝ }
+    ensures { λ _. ⌜ now (book .exit) ≡ sets (now (book .entry)) at (bodyBytes n (recordView (asRecord pile))) ⌝ }
+{
+    let opening = [pile.floor, pile.top];
+    put_run(book, at, &opening, 0, 2);
+    let shares = pile.shares;
+    put_run(book, at + 8, &shares, 0, n);
+    put_run(book, at + 8 + 4 * n, &shares, 8, n);
+    let tallies = pile.tallies;
+    save_rows(book, at + 8 * (n + 1), n, &tallies);
+}
