@@ -1,10 +1,13 @@
 -- A body is short, so that no position in a book wraps; nor does one in the list that a book is opened from.
 -- Assumes nothing.
 use Prim.Native.Nat.{ℕ, _+_, _*_, _≤_, _<_}
-use native.Mathlib.Nat.{mul-le-mul, mul-le-mul-right}
-use mathlib.Core.Path.{_≡_}
+use native.Mathlib.Nat.{add-zero, mul-le-mul, mul-le-mul-right}
 use native.Mathlib.Omega.{arith}
+use mathlib.Core.Path.{_≡_, ap, sym}
+use mathlib.Core.List.{List}
+use lib.ListN.{getD}
 use Rattle.rules.specs.Layout.{bodyLength, bodyAt, bookLength, deskLimit, pileLimit}
+use Rattle.rules.specs.Opening.{given}
 
 pub body-most : (n : ℕ) → n ≤ deskLimit → bodyLength n ≤ 648
 unfolding bodyLength
@@ -31,6 +34,11 @@ pub contents-within : (n p : ℕ) → 4 + p * 6 ≤ bookLength n p
 unfolding bodyAt bookLength
 contents-within n p = omega arith
 
+-- no position is beyond the longest book
+pub position-most : (n p k : ℕ) → n ≤ deskLimit → p ≤ pileLimit → k ≤ pileLimit → bodyAt n p k ≤ 20932
+unfolding bodyAt
+position-most n p k l m j = omega (arith, mul-le-mul j (body-most n l))
+
 -- the numbers of the piles before pile k, and that its own follow them
 pub given-most : (n k : ℕ) → n ≤ deskLimit → k ≤ pileLimit → k * (3 + 2 * n) ≤ 608
 given-most n k l m =
@@ -39,3 +47,8 @@ given-most n k l m =
 
 pub given-within : (n : ℕ) {k p : ℕ} → k < p → (k + 1) * (3 + 2 * n) ≤ p * (3 + 2 * n)
 given-within n l = omega (arith, mul-le-mul-right (3 + 2 * n) l)
+
+-- the first of its own
+pub given-number : (n : ℕ) (l : List ℕ) (k : ℕ) → getD l (k * (3 + 2 * n)) 0 ≡ given n l k 0
+unfolding given
+given-number n l k = ap (λ (j : ℕ). getD l j 0) (sym (add-zero (k * (3 + 2 * n))))

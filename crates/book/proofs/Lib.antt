@@ -3,3 +3,4 @@ pub mod Loaded
 pub mod Saved
 pub mod Numbers
 pub mod Replies
+pub mod Opened

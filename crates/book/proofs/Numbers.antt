@@ -1,18 +1,21 @@
 -- The lines of the table for a book's bytes, each from what leads to it.
 -- Assumes nothing.
 use Prim.Native.Nat.{ℕ, _≤_, _<_}
-use mathlib.Core.Path.{_≡_, sym}
+use mathlib.Core.Path.{_≡_, sym, _∙_}
 use mathlib.Core.Logic.{_≢_}
-use mathlib.Core.Bool.{true, false}
+use mathlib.Core.Bool.{Bool, true, false}
 use mathlib.Core.List.{List}
 use lib.ListN.{length}
+use lib.Dec.{eqb}
+use lib.Seq.{sets}
 use borrow.Author.Tests.{lt-ltb, le-ltb, eq-eqb, ne-eqb, leb-true}
-use Rattle.rules.specs.Loops.{between}
+use Rattle.rules.specs.Loops.{_and_, between}
 use Rattle.rules.specs.Refusals.{_when_, _orElse_, first}
-use Rattle.rules.specs.Pile.{pileAnswer}
-use Rattle.rules.specs.Layout.{desks, piles, bookLength, pileOf}
-use Rattle.rules.specs.Book.{headRight, contentsRight, bookAnswer, place, absent, deskAnswer}
-use Rattle.rules.proofs.Tests.{and-left, and-right, orElse-stands}
+use Rattle.rules.specs.Pile.{pileAnswer, sameOpening}
+use Rattle.rules.specs.Layout.{desks, piles, bookLength, bodyAt, pileOf, bodyBytes}
+use Rattle.rules.specs.Book.{headRight, contentsRight, bookAnswer, place, absent, fetchAnswer, deskAnswer}
+use Rattle.rules.specs.Record.{Record, recordView, recordAnswer, storeAnswer, afterStore}
+use Rattle.rules.proofs.Tests.{and-left, and-right, orElse-stands, orElse-passes, when-accepted, when-refused}
 
 module _ (b : List ℕ) where
   pub number-1 : length b < 4 → 1 ≡ bookAnswer b
@@ -67,3 +70,34 @@ module _ (b : List ℕ) (i number : ℕ) where
       pub desk-0 : place b number ≢ piles b → 0 ≡ deskAnswer i b number
       unfolding deskAnswer absent _when_ _orElse_
       desk-0 d = rw (passed, lt-ltb _ _ desk, ne-eqb _ _ d)
+
+-- and for a record that is stored
+module _ (b : List ℕ) (number : ℕ) (r : Record) where
+  abbrev agrees : Bool
+  agrees = eqb (r .n) (desks b) and sameOpening (desks b) (recordView r) (pileOf b (place b number))
+
+  pub store-refused : {m : ℕ} → m ≡ storeAnswer b number r → m ≢ 0 → (m ≡ storeAnswer b number r) × (b ≡ afterStore b number r)
+  unfolding afterStore
+  store-refused e d = (e, sym (when-refused _ _ _ (λ z. d (e ∙ z))))
+
+  pub store-own : (m : ℕ) → m ≡ fetchAnswer b number → m ≢ 0 → m ≡ storeAnswer b number r
+  unfolding storeAnswer
+  store-own m e d = sym (rw (← e) (orElse-stands m _ d))
+
+  module _ (found : fetchAnswer b number ≡ 0) where
+    pub store-record : (m : ℕ) → m ≡ recordAnswer r → m ≢ 0 → m ≡ storeAnswer b number r
+    unfolding storeAnswer
+    store-record m e d = sym (orElse-passes found _ ∙ rw (← e) (orElse-stands m _ d))
+
+    module _ (passed : recordAnswer r ≡ 0) where
+      pub store-30 : agrees ≡ false → 30 ≡ storeAnswer b number r
+      unfolding storeAnswer _when_ _orElse_
+      store-30 e = rw (found, passed, e)
+
+      pub store-accepted : {at : ℕ} {after : List ℕ} → agrees ≡ true
+          → at ≡ bodyAt (desks b) (piles b) (place b number) → after ≡ sets b at (bodyBytes (desks b) (recordView r))
+          → (0 ≡ storeAnswer b number r) × (after ≡ afterStore b number r)
+      unfolding storeAnswer afterStore _when_ _orElse_
+      store-accepted e placed written =
+          let answer : storeAnswer b number r ≡ 0 = rw (found, passed, e) in
+          (sym answer, rw placed at written ∙ sym (when-accepted _ _ _ answer))

@@ -13,7 +13,7 @@ ghost use Rattle.rules.specs.Opening.{rising};
 ghost use Rattle.rules.specs.Book.{headRight};
 
 // A book's version, and the most piles of one.
-const VERSION: u8 = 1;
+pub(crate) const VERSION: u8 = 1;
 
 pub(crate) const PILES: u8 = 32;
 

@@ -1,5 +1,6 @@
 // The book: a file of stockpiles, in a slice of bytes. Each entry point checks the book first.
 mod find;
+mod front;
 mod given;
 mod head;
 mod layout;
@@ -7,20 +8,29 @@ mod load;
 mod opening;
 mod queries;
 mod readable;
+mod same;
 mod save;
 
 use find::find;
 use find::load_body;
+use front::put_bodies;
+use front::put_front;
+use layout::body_at;
 use layout::body_length;
 use number::get4;
+use opening::opening_number;
 use pile::Amount;
 use pile::Pile;
 use queries::rights_of;
 use readable::book_number;
+use same::same_opening;
+use save::save;
 ghost use mathlib.Core.Path.{_≡_};
+ghost use lib.ListN.{length};
 ghost use Rattle.rules.specs.Pile.{draw, tip};
+ghost use Rattle.rules.specs.Opening.{openingAnswer, afterOpening};
 ghost use Rattle.rules.specs.Book.{bookAnswer, fetchAnswer, bodyPart, tonnageReply, rightsReply};
-ghost use Rattle.rules.specs.Record.{fetched};
+ghost use Rattle.rules.specs.Record.{fetched, storeAnswer, afterStore};
 ghost use Rattle.pile.specs.View.{asRecord};
 ghost use Rattle.pile.specs.Replies.{asReply};
 
@@ -28,6 +38,20 @@ ghost use Rattle.pile.specs.Replies.{asReply};
 pub struct Fetched {
     pub number: u8,
     pub pile: Pile,
+}
+
+// Opens a book of n desks and p piles in a lent buffer, from a list of each pile's number, floor, top and shares.
+pub fn open(n: u8, p: u8, numbers: &[u32], out: &mut [u8]) -> u8
+    ensures number { λ r. ⌜ r ≡ openingAnswer n p (now (numbers .entry)) (length (now (out .entry))) ⌝ }
+    ensures out { λ r. ⌜ now (out .exit) ≡ afterOpening n p (now (numbers .entry)) (now (out .entry)) ⌝ }
+{
+    let number = opening_number(n, p, numbers, out.len());
+    if number != 0 {
+        return number;
+    }
+    put_front(out, n, p, numbers);
+    put_bodies(out, n, p as usize, numbers);
+    0
 }
 
 // The book's own refusal, 1 to 7, or 0.
@@ -70,6 +94,34 @@ pub fn fetch(book: &[u8], number: u16) -> Fetched
         number: 0,
         pile: load_body(book, k),
     }
+}
+
+// Stores a record as the body of its pile, whose n and opening it must have.
+pub fn store(book: &mut [u8], number: u16, pile: Pile) -> u8
+    ensures number { λ r. ⌜ r ≡ storeAnswer (now (book .entry)) number (asRecord pile) ⌝ }
+    ensures book { λ r. ⌜ now (book .exit) ≡ afterStore (now (book .entry)) number (asRecord pile) ⌝ }
+{
+    let found = find(book, 0, number);
+    let refusal = found.number;
+    if refusal != 0 {
+        return refusal;
+    }
+    let own = pile.check();
+    if own != 0 {
+        return own;
+    }
+    let n = book[1];
+    if pile.n != n {
+        return 30;
+    }
+    let k = found.place;
+    let stored = load_body(book, k);
+    if !same_opening(pile, stored, n as usize) {
+        return 30;
+    }
+    let p = book[2] as usize;
+    save(book, body_at(n as usize, p, k), n as usize, pile);
+    0
 }
 
 pub fn tonnage(book: &[u8], number: u16) -> Amount

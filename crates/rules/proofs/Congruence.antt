@@ -8,7 +8,7 @@ use mathlib.Core.List.{List, [], _∷_, _++_}
 use lib.Dec.{leb, eqb}
 use Rattle.rules.specs.Loops.{_and_, every}
 use Rattle.rules.specs.Numbers.{bytes, encode}
-use Rattle.rules.specs.Pile.{Side, draw, tip, other, bothSides, Pile, credit, debit, rights, tallyLimit, lawful, tonnage, openingLawful, talliesLawful, pileAnswer}
+use Rattle.rules.specs.Pile.{Side, draw, tip, other, bothSides, Pile, credit, debit, rights, tallyLimit, lawful, tonnage, openingLawful, talliesLawful, pileAnswer, sameOpening}
 use Rattle.rules.specs.Acts.{Kind, spend, give, side, tally, sameSide, acted}
 use Rattle.rules.specs.Layout.{bodyAt, rowOf, bodyRow, bodyBytes, entryBytes, bookBytes}
 use Rattle.rules.proofs.Sums.{sum-cong}
@@ -96,6 +96,12 @@ module _ (n : ℕ) (p q : Pile) (a : Agree n p q) where
   pub answer-cong : pileAnswer n p ≡ pileAnswer n q
   unfolding pileAnswer
   answer-cong = rw (opening-test-cong, tallies-test-cong, lawful-test-cong)
+
+  pub same-opening-cong : (o : Pile) → sameOpening n o p ≡ sameOpening n o q
+  unfolding sameOpening
+  same-opening-cong o =
+      ap₂ _and_ (ap (eqb (o .floor)) (a .floor))
+      (ap₂ _and_ (ap (eqb (o .top)) (a .top)) (every-cong n (λ i l. both-cong (λ s. ap (eqb (o .share s i)) (a .share s i l)))))
 
   pub opening-cong : OpeningFacts n p → OpeningFacts n q
   opening-cong o =

@@ -18,13 +18,13 @@ use Rattle.rules.proofs.Body.{Agree, Fits, Fits4, length-body, read-bod
 use Rattle.rules.proofs.Congruence.{body-cong}
 
 module _ (n p : ℕ) (numbers : ℕ → ℕ) (pile : ℕ → Pile) where
-  length-entry : (k : ℕ) → length (entryBytes n p numbers k) ≡ 6
+  pub length-entry : (k : ℕ) → length (entryBytes n p numbers k) ≡ 6
   unfolding entryBytes
   length-entry k =
       length-append (bytes 2 (numbers k)) (bytes 4 (bodyAt n p k))
       ∙ ap₂ _+_ (length-bytes 2 (numbers k)) (length-bytes 4 (bodyAt n p k))
 
-  length-contents : length (flat p (entryBytes n p numbers)) ≡ p * 6
+  pub length-contents : length (flat p (entryBytes n p numbers)) ≡ p * 6
   length-contents = length-flat p 6 (entryBytes n p numbers) (λ k _. length-entry k)
 
   pub length-book : length (bookBytes n p numbers pile) ≡ bookLength n p

@@ -1,18 +1,17 @@
 -- `numbers_rise` tests one number after the other against the one before it and the highest, and stops at the first that is wrong.
 -- Assumes nothing.
 use Prim.Native.Nat.{ℕ, _+_, _-_, _*_, _≤_, _<_}
-use native.Mathlib.Nat.{add-zero}
 use native.Mathlib.Numerals.{add-one}
 use native.Mathlib.Omega.{arith}
 use mathlib.Core.Path.{_≡_, refl, ap, sym, _∙_}
 use mathlib.Core.Bool.{true}
-use lib.ListN.{length, getD}
+use lib.ListN.{length}
 use borrow.Author.Needs.{needs}
 use borrow.Author.Tests.{lt-ltb, le-ltb, le-leb, lt-leb}
 use Rattle.rules.specs.Loops.{every}
 use Rattle.rules.specs.Opening.{previous, rising, given}
 use Rattle.rules.proofs.Tests.{every-next, every-stops, and-both, and-left-fails, and-right-fails}
-use Rattle.book.proofs.Lengths.{given-most, given-within}
+use Rattle.book.proofs.Lengths.{given-most, given-within, given-number}
 use Rattle.book.proofs.opening.numbers_rise.Statement.{statement}
 use Rattle.book.proofs.opening.numbers_rise.Tie as tie
 
@@ -32,11 +31,6 @@ most c = given-most (c .before .args .n) (c .loop .k) (c .before .pre .0) (omega
 
 within : (c : tie.In-loop Inv-loop μ-loop) → before (c .before) < length (c .before .before .args .numbers .now)
 within c = omega (arith, given-within (c .before .before .args .n) (c .loop-test .taken), c .before .before .pre .2)
-
-number-is : (c : tie.At-loop Inv-loop μ-loop)
-    → getD (c .before .args .numbers .now) (before c) 0 ≡ given (c .before .args .n) (c .before .args .numbers .now) (c .loop .k) 0
-unfolding given
-number-is c = ap (λ (j : ℕ). getD (c .before .args .numbers .now) j 0) (sym (add-zero (before c)))
 
 loop-holds : tie.Need-loop-holds Inv-loop μ-loop
 unfolding rising every
@@ -61,14 +55,14 @@ returns : tie.Need-returns Inv-loop μ-loop
 unfolding rising
 returns c =
     let at = c .before .before .before in
-    let stays = rw (number-is at, at .loop .inv .1) at (c .if1 .taken) in
+    let stays = rw (given-number, at .loop .inv .1) at (c .if1 .taken) in
     sym (every-stops _ _ (at .loop .k) (search needs) (and-left-fails (le-ltb _ _ stays) _))
 
 returns-2 : tie.Need-returns-2 Inv-loop μ-loop
 unfolding rising
 returns-2 c =
     let at = c .before .before .before .before in
-    sym (every-stops _ _ (at .loop .k) (search needs) (and-right-fails _ (lt-leb _ _ (rw (number-is at) at (c .if2 .taken)))))
+    sym (every-stops _ _ (at .loop .k) (search needs) (and-right-fails _ (lt-leb _ _ (rw given-number at (c .if2 .taken)))))
 
 add-k : tie.Need-add-k Inv-loop μ-loop
 add-k c = search needs
@@ -80,10 +74,10 @@ loop-again : tie.Need-loop-again Inv-loop μ-loop
 unfolding rising
 loop-again c =
     let at = c .before .before .before .before in
-    let rises = rw (number-is at, at .loop .inv .1) at (c .before .if1 .left) in (
+    let rises = rw (given-number, at .loop .inv .1) at (c .before .if1 .left) in (
       search needs,
-      number-is at ∙ ap (previous _) (sym (add-one (at .loop .k))),
-      every-next _ _ (at .loop .inv .2) (and-both (lt-ltb _ _ rises) (le-leb _ _ (rw (number-is at) at (c .if2 .left)))),
+      given-number _ _ _ ∙ ap (previous _) (sym (add-one (at .loop .k))),
+      every-next _ _ (at .loop .inv .2) (and-both (lt-ltb _ _ rises) (le-leb _ _ (rw given-number at (c .if2 .left)))),
     )
 
 returns-3 : tie.Need-returns-3 Inv-loop μ-loop

@@ -1,0 +1,97 @@
+-- What an accepted opening writes, part by part: an entry of the contents, a body, and head, contents and bodies together.
+-- Assumes nothing.
+use Prim.Native.Nat.{ℕ, _+_, _*_, _≤_}
+use native.Mathlib.Omega.{arith}
+use mathlib.Core.Path.{_≡_, ap, sym, _∙_}
+use mathlib.Core.Bool.{not}
+use mathlib.Core.List.{List, [], _∷_, _++_}
+use lib.ListN.{length}
+use lib.Seq.{sets, length-sets}
+use borrow.Author.Tests.{eqb-true, ltb-false}
+use Rattle.rules.specs.Loops.{flat}
+use Rattle.rules.specs.Refusals.{_when_, first}
+use Rattle.rules.specs.Pile.{openingLawful}
+use Rattle.rules.specs.Numbers.{bytes, afterPut}
+use Rattle.rules.specs.Layout.{bodyLength, bodyAt, bookLength, bodyBytes, entryBytes, bookBytes}
+use Rattle.rules.specs.Record.{Record, recordView, recordOf}
+use Rattle.rules.specs.Opening.{given, givenPile, openingAnswer, opened}
+use Rattle.rules.proofs.Tests.{when-done, when-not-done, orElse-first, orElse-rest}
+use Rattle.rules.proofs.Bytes.{length-bytes}
+use Rattle.rules.proofs.Body.{length-body}
+use Rattle.rules.proofs.Put.{sets-append}
+use Rattle.rules.proofs.Congruence.{body-cong}
+use Rattle.rules.proofs.RecordOf.{record-agrees}
+use Rattle.rules.proofs.Written.{length-entry, length-contents}
+use Rattle.rules.proofs.LawfulBook.{Frame}
+use Rattle.rules.proofs.Opened.{opened-frame}
+use Rattle.book.proofs.Saved.{put-fits, sets-piece}
+
+abbrev pub body : ℕ → List ℕ → ℕ → List ℕ
+body n l k = bodyBytes n (givenPile n l k)
+
+module _ (n p : ℕ) (l : List ℕ) where
+  abbrev pub entry : ℕ → List ℕ
+  entry = entryBytes n p (λ k. given n l k 0)
+
+  -- an entry is its number and its position, behind the entries before it
+  pub put-entry : (b : List ℕ) (k : ℕ) {x y : ℕ} {before between after : List ℕ} → 10 + k * 6 ≤ length b
+      → before ≡ sets b 4 (flat k entry) → x ≡ given n l k 0 → y ≡ bodyAt n p k
+      → between ≡ afterPut 2 before (4 + k * 6) x → after ≡ afterPut 4 between (6 + k * 6) y
+      → after ≡ sets b 4 (flat (k + 1) entry)
+  unfolding entryBytes
+  put-entry b k fits entries is at first second =
+      let e : List ℕ = sets b 4 (flat k entry) in
+      let v : List ℕ = bytes 2 (given n l k 0) in
+      let long : length e ≡ length b = length-sets b 4 (flat k entry) in
+      rw (
+        second,
+        first,
+        entries,
+        is,
+        at,
+        put-fits 2 e (4 + k * 6) (given n l k 0) (omega (arith, long)),
+        put-fits 4 (sets e (4 + k * 6) v) (6 + k * 6) (bodyAt n p k) (omega (arith, long, length-sets e (4 + k * 6) v)),
+      )
+      (ap (λ (j : ℕ). sets (sets e (4 + k * 6) v) j (bytes 4 (bodyAt n p k))) (omega (arith, length-bytes 2 (given n l k 0)))
+      ∙ sym (sets-append e (4 + k * 6) v (bytes 4 (bodyAt n p k)))
+      ∙ sets-piece b 4 6 k entry (length-entry n p _ (givenPile n l)))
+
+  -- the record of a given pile makes its body, behind the bodies before it
+  pub put-given : (b : List ℕ) (k : ℕ) {at : ℕ} {r : Record} {before after : List ℕ} → n ≤ 8
+      → before ≡ sets b (bodyAt n p 0) (flat k (body n l)) → at ≡ bodyAt n p k → r ≡ recordOf n (givenPile n l k)
+      → after ≡ sets before at (bodyBytes n (recordView r))
+      → after ≡ sets b (bodyAt n p 0) (flat (k + 1) (body n l))
+  unfolding bodyAt
+  put-given b k n≤8 bodies at is saved =
+      rw (saved, bodies, at, is, body-cong n _ _ (record-agrees n (givenPile n l k) n≤8))
+      (ap (λ (j : ℕ). sets (sets b (bodyAt n p 0) (flat k (body n l))) j (body n l k)) (omega arith)
+      ∙ sets-piece b (bodyAt n p 0) (bodyLength n) k (body n l) (λ j. length-body n (givenPile n l j)))
+
+  -- head and contents, and then the bodies, are the opened book
+  pub put-book : (b : List ℕ) {front after : List ℕ} → front ≡ sets b 0 ((1 ∷ n ∷ p ∷ 0 ∷ []) ++ flat p entry)
+      → after ≡ sets front (bodyAt n p 0) (flat p (body n l)) → after ≡ sets b 0 (opened n p l)
+  unfolding opened bookBytes bodyAt
+  put-book b front bodies =
+      let v : List ℕ = 1 ∷ n ∷ p ∷ 0 ∷ flat p entry in
+      let long : length (flat p entry) ≡ p * 6 = length-contents n p (λ k. given n l k 0) (givenPile n l) in
+      rw (bodies, front)
+      (ap (λ (j : ℕ). sets (sets b 0 v) j (flat p (body n l))) (omega (arith, long)) ∙ sym (sets-append b 0 v (flat p (body n l))))
+
+-- what an accepted opening tells
+pub record Accepted (n p : ℕ) (l : List ℕ) (room : ℕ) : Type 0 where
+  pub frame : Frame n p (λ k. given n l k 0)
+  pub sized : length l ≡ p * (3 + 2 * n)
+  pub lawful : first p (λ k. 5 when not (openingLawful n (givenPile n l k))) ≡ 0
+  pub enough : bookLength n p ≤ room
+
+pub accepted-facts : (n p : ℕ) (l : List ℕ) (room : ℕ) → openingAnswer n p l room ≡ 0 → Accepted n p l room
+unfolding openingAnswer
+accepted-facts n p l room e =
+    let sizes = orElse-rest _ _ e in
+    let piles = orElse-rest _ _ (orElse-rest _ _ sizes) in
+    record {
+      frame = opened-frame n p l room e;
+      sized = eqb-true _ _ (when-not-done _ _ (orElse-first _ _ sizes));
+      lawful = orElse-first _ _ piles;
+      enough = ltb-false _ _ (when-done _ _ (orElse-rest _ _ piles));
+    }
