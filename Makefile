@@ -11,7 +11,7 @@ test:
 	$(RT) fmt --check
 	$(RT) ci
 
-# Proves the rules and the record, lists cases a to j of document 01, which one theorem of the rules says hold, and runs the worked book's acts.
+# Proves the rules, the record and the file, lists cases a to j of document 01, which one theorem of the rules says hold, and runs the worked book.
 run:
 	@$(RT) check rules vectors
 	@sed -n 's/^ *-- \([a-j]\): \(.*\)/case \1 holds: \2/p' crates/rules/proofs/Cases.antt

@@ -1,20 +1,22 @@
-// The worked book's pile as a record: F, the acts that make G of it, and what the table refuses on the way and from G. Each line has the act, its
+// The worked book's pile as a record, and then (`file.rt`) its file. The record: F, the acts that make G of it, and what the table refuses on the way and from G. Each line has the act, its
 // number, and then the tonnage and the draw and tip rights of desks 0, 1 and 2 of the record that came back.
+mod file;
+
 use libc::STDOUT_FILENO;
 use pile::Amount;
 use pile::Entered;
 use pile::Pile;
 ghost use Prim.Native.Nat.{_<_};
 
-fn text(s: &[u8]) {
+pub(crate) fn text(s: &[u8]) {
     io::write_all(STDOUT_FILENO, s);
 }
 
-fn number(x: u64) {
+pub(crate) fn number(x: u64) {
     io::print_decimal(STDOUT_FILENO, x);
 }
 
-fn amount(a: Amount) {
+pub(crate) fn amount(a: Amount) {
     text(b" ");
     match a {
         Amount::Tonnes(x) => number(x as u64),
@@ -134,4 +136,5 @@ fn main() {
     refused(g);
     unlawful();
     tallied();
+    file::run();
 }
