@@ -30,3 +30,4 @@ pub mod RecordFacts
 pub mod RecordOf
 pub mod FreshRecord
 pub mod Found
+pub mod RoundTrip

@@ -23,7 +23,7 @@ use Rattle.rules.proofs.AfterAct.{act-desk, act-pile, act-allowed, acte
 use Rattle.rules.proofs.LawfulBook.{Frame, written-octets, written-number, written-pile, written-readable}
 use Rattle.rules.proofs.Grown.{at, grown, grown-none, grown-acted}
 
-index-cong : (n : ℕ) (t u : ℕ → Bool) → ((k : ℕ) → k < n → t k ≡ u k) → index n t ≡ index n u
+pub index-cong : (n : ℕ) (t u : ℕ → Bool) → ((k : ℕ) → k < n → t k ≡ u k) → index n t ≡ index n u
 unfolding index
 index-cong zero t u h = refl
 index-cong (suc n) t u h =
