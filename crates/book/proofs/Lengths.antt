@@ -8,6 +8,7 @@ use mathlib.Core.List.{List}
 use lib.ListN.{getD}
 use Rattle.rules.specs.Layout.{bodyLength, bodyAt, bookLength, deskLimit, pileLimit}
 use Rattle.rules.specs.Opening.{given}
+pub use Rattle.rules.proofs.Cells.{body-within}
 
 pub body-most : (n : ℕ) → n ≤ deskLimit → bodyLength n ≤ 648
 unfolding bodyLength
@@ -20,16 +21,12 @@ pub row-within : (n r : ℕ) → r ≤ n → r * (8 * (n + 1)) + 8 * (n + 1) ≤
 unfolding bodyLength
 row-within n r l = omega (arith, mul-le-mul-right (8 * (n + 1)) l)
 
--- bodies follow each other, and body k lies within the book
+-- bodies follow each other
 pub body-next : (n p k : ℕ) → bodyAt n p (k + 1) ≡ bodyAt n p k + bodyLength n
 unfolding bodyAt
 body-next n p k = omega arith
 
-pub body-within : (n p k : ℕ) → k < p → bodyAt n p k + bodyLength n ≤ bookLength n p
-unfolding bodyAt bookLength
-body-within n p k l = omega (arith, mul-le-mul-right (bodyLength n) l)
-
--- so does the contents
+-- the contents lies within the book
 pub contents-within : (n p : ℕ) → 4 + p * 6 ≤ bookLength n p
 unfolding bodyAt bookLength
 contents-within n p = omega arith

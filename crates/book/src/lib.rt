@@ -1,4 +1,4 @@
-// The book: a file of stockpiles, in a slice of bytes. Each entry point checks the book first.
+// The book: a file of stockpiles, in a slice of bytes. An entry point that is lent a book checks it first, whole.
 mod find;
 mod front;
 mod given;

@@ -9,13 +9,14 @@ use mathlib.Core.Logic.{_⊎_, inl, inr, ⊎-elim, by-cases}
 use mathlib.Core.Bool.{Bool, true}
 use lib.ListN.{getD}
 use lib.Dec.{lit<, eqb}
-use borrow.Author.Tests.{leb-true, eqb-true, eq-eqb, le-leb, lt-ltb, le-ltb}
+use borrow.Author.Tests.{leb-true, eqb-true, eq-eqb, le-leb, lt-ltb}
 use Rattle.rules.specs.Loops.{_and_, every}
 use Rattle.rules.specs.Pile.{Side, draw, tip, Pile, tallyLimit, talliesLawful}
 use Rattle.rules.specs.Layout.{column, earnedColumn}
 use Rattle.rules.specs.Record.{Record, recordView, unusedShares, unusedPlaces}
-use Rattle.rules.proofs.Tests.{same, and-left, and-right, and-both, and-left-fails, and-right-fails, every-at, every-all, or-first, or-second, or-other}
+use Rattle.rules.proofs.Tests.{same, and-left, and-right, and-both, every-at, every-all, or-first, or-second}
 use Rattle.rules.proofs.Facts.{both-at, both-all}
+use Rattle.rules.proofs.UnusedPlaces.{unused-share, unused-earned, unused-give}
 use Rattle.rules.proofs.Body.{by-column, column-below}
 use Rattle.pile.specs.Account.{rowRight}
 use Rattle.pile.proofs.Checked.{sideNumber, share-at, earned-at, give-at}
@@ -35,10 +36,6 @@ module _ (r : Record) (n : ℕ) (n≤8 : n ≤ 8) where
   P = recordView r
 
   -- shares
-  shares-at : unusedShares n P ≡ true → (s : Side) (j : ℕ) → n ≤ j → j < 8 → P .share s j ≡ 0
-  unfolding unusedShares
-  shares-at e s j n≤j j<8 = eqb-true _ _ (both-at _ (or-other _ _ (le-ltb j n n≤j) (every-at 8 _ e j j<8)) s)
-
   shares-all : ((s : Side) (j : ℕ) → n ≤ j → j < 8 → P .share s j ≡ 0) → unusedShares n P ≡ true
   unfolding unusedShares
   shares-all h =
@@ -50,8 +47,8 @@ module _ (r : Record) (n : ℕ) (n≤8 : n ≤ 8) where
   unused-shares =
       same _ _
       (λ e. shares-all (λ s. both s (and-left _ _ e) (and-right _ _ e)))
-      (λ e. and-both (zero-all (8 - n) _ (λ k l. at-draw k ∙ shares-at e draw (n + k) (omega arith) (omega arith)))
-      (zero-all (8 - n) _ (λ k l. at-tip k ∙ shares-at e tip (n + k) (omega arith) (omega arith))))
+      (λ e. and-both (zero-all (8 - n) _ (λ k l. at-draw k ∙ unused-share n P e draw (n + k) (omega arith) (omega arith)))
+      (zero-all (8 - n) _ (λ k l. at-tip k ∙ unused-share n P e tip (n + k) (omega arith) (omega arith))))
     where
       at-draw : (k : ℕ) → getD (r .shares) (n + k) 0 ≡ P .share draw (n + k)
       at-draw k = ap (λ (q : ℕ). getD (r .shares) q 0) (omega arith) ∙ share-at r draw (n + k)
@@ -65,16 +62,6 @@ module _ (r : Record) (n : ℕ) (n≤8 : n ≤ 8) where
       both tip d t = from-n n (P .share tip) _ at-tip t
 
   -- places: the tallies of desks past n, and the gives of such desks and to them
-  earned-unused : unusedPlaces n P ≡ true → (s : Side) (i : ℕ) → n ≤ i → i < 8 → P .earned s i ≡ 0
-  unfolding unusedPlaces
-  earned-unused e s i n≤i i<8 = eqb-true _ _ (both-at _ (or-other _ _ (le-ltb i n n≤i) (and-left _ _ (every-at 8 _ e i i<8))) s)
-
-  give-unused : unusedPlaces n P ≡ true → (s : Side) (i j : ℕ) → i < 8 → j < 8 → (n ≤ i) ⊎ (n ≤ j) → P .give s i j ≡ 0
-  unfolding unusedPlaces
-  give-unused e s i j i<8 j<8 h =
-      eqb-true _ _ (both-at _ (or-other _ _ (⊎-elim (λ l. and-left-fails (le-ltb i n l) _) (λ l. and-right-fails _ (le-ltb j n l)) h)
-      (every-at 8 _ (and-right _ _ (every-at 8 _ e i i<8)) j j<8)) s)
-
   places-all : ((s : Side) (i : ℕ) → n ≤ i → i < 8 → P .earned s i ≡ 0)
       → ((s : Side) (i j : ℕ) → i < 8 → j < 8 → (n ≤ i) ⊎ (n ≤ j) → P .give s i j ≡ 0) → unusedPlaces n P ≡ true
   unfolding unusedPlaces
@@ -192,5 +179,5 @@ module _ (r : Record) (n : ℕ) (n≤8 : n ≤ 8) where
       back e =
           let row : (s : Side) → side-right s ≡ true
           = λ s. every-all n (λ i l. lawful-row s i (lawful-at i (every-at n _ (and-left _ _ e) i l) s)
-          (λ j n≤j j<8. give-unused (and-right _ _ e) s i j (omega arith) j<8 (inr n≤j))) in
-          and-both (row draw) (and-both (row tip) (rest-all (earned-unused (and-right _ _ e)) (give-unused (and-right _ _ e))))
+          (λ j n≤j j<8. unused-give n P (and-right _ _ e) s i j (omega arith) j<8 (inr n≤j))) in
+          and-both (row draw) (and-both (row tip) (rest-all (unused-earned n P (and-right _ _ e)) (unused-give n P (and-right _ _ e))))

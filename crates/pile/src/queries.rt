@@ -39,7 +39,7 @@ pub(crate) fn rights_of(p: Pile, side: u8, desk: u8) -> Amount
     Amount::Tonnes(rights as u32)
 }
 
-// The tonnage.
+// The tonnage, as the audit has it.
 pub(crate) fn tonnage_of(p: Pile) -> Amount
     ensures { λ r. ⌜ asReply r ≡ recordTonnageReply (asRecord p) ⌝ }
 {

@@ -6,7 +6,7 @@ use native.Mathlib.Decide.{ℕ-discrete, decLt}
 use native.Mathlib.Omega.{arith}
 use mathlib.Core.Path.{ap}
 use mathlib.Core.Logic.{_⊎_, inl, inr, ⊎-elim, by-cases, _≢_}
-use Rattle.rules.specs.Layout.{rowLength, bodyLength, bodyAt, cellAt}
+use Rattle.rules.specs.Layout.{rowLength, bodyLength, bodyAt, bookLength, cellAt}
 use Rattle.rules.proofs.Put.{Apart}
 
 -- of two different numbers one is below the other
@@ -23,6 +23,11 @@ pieces-apart ℓ k k′ j j′ w h fits fits′ =
 pub cell-fits : (n r c : ℕ) → r < suc n → c < 2 + (n + n) → cellAt n r c + 4 ≤ bodyLength n
 unfolding cellAt rowLength bodyLength
 cell-fits n r c r<n c<w = omega (arith, mul-le-mul-right (8 * (n + 1)) r<n)
+
+-- and body k within its book
+pub body-within : (n p k : ℕ) → k < p → bodyAt n p k + bodyLength n ≤ bookLength n p
+unfolding bodyAt bookLength
+body-within n p k l = omega (arith, mul-le-mul-right (bodyLength n) l)
 
 -- cells of different bodies, and different cells of one body
 pub bodies-apart : (n p k k′ r r′ c c′ : ℕ) → r < suc n → r′ < suc n → c < 2 + (n + n) → c′ < 2 + (n + n) → k ≢ k′

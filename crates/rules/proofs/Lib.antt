@@ -30,4 +30,5 @@ pub mod RecordFacts
 pub mod RecordOf
 pub mod FreshRecord
 pub mod Found
+pub mod UnusedPlaces
 pub mod RoundTrip

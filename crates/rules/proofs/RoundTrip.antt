@@ -11,25 +11,26 @@ use mathlib.Core.List.{List, _∷_, _++_}
 use lib.ListN.{length, getD, take, drop, length-drop, take-append-drop}
 use lib.Dec.{eqb}
 use lib.Seq.{sets, sets-eq, length-sets, length-take-le, take-add, getD-take, getD-drop, ext-getD}
-use borrow.Author.Tests.{eqb-true, eq-eqb, ne-eqb, le-ltb}
+use borrow.Author.Tests.{eqb-true, eq-eqb, ne-eqb}
 use Rattle.rules.specs.Loops.{index}
 use Rattle.rules.specs.Numbers.{number, part}
-use Rattle.rules.specs.Pile.{Side, Pile, sameOpening, pileAnswer}
+use Rattle.rules.specs.Pile.{Pile, sameOpening, pileAnswer}
 use Rattle.rules.specs.Layout.{bodyLength, bodyAt, bookLength, column, bodyView, desks, piles, pileNumber, position, pileOf, bodyBytes}
 use Rattle.rules.specs.Opening.{rising}
 use Rattle.rules.specs.Book.{bookAnswer, place, absent, fetchAnswer}
 use Rattle.rules.specs.Record.{Record, recordView, recordAnswer, recordOf, padded, unusedShares, unusedPlaces, fetched, storeAnswer, afterStore}
-use Rattle.rules.proofs.Tests.{and-left, and-right, and-both, and-left-fails, and-right-fails, or-other, every-at, every-all, when-not-done, not-met, none-met, orElse-first, orElse-rest, when-accepted}
-use Rattle.rules.proofs.Facts.{PileFacts, both-at, both-all, facts, passes}
+use Rattle.rules.proofs.Tests.{and-left, and-right, and-both, every-all, when-not-done, not-met, none-met, orElse-first, orElse-rest, when-accepted}
+use Rattle.rules.proofs.Facts.{PileFacts, both-all, facts, passes}
 use Rattle.rules.proofs.Bytes.{Octets, number-cong}
 use Rattle.rules.proofs.Put.{getD-sets-in, getD-sets-other}
 use Rattle.rules.proofs.Body.{Agree, lawful-fits, length-body, write-body, read-body}
 use Rattle.rules.proofs.Congruence.{agree-sym, facts-cong, body-cong}
-use Rattle.rules.proofs.Cells.{below-or-above}
+use Rattle.rules.proofs.Cells.{below-or-above, body-within}
 use Rattle.rules.proofs.LawfulBook.{rising-cong}
 use Rattle.rules.proofs.Readable.{BookFacts, book-facts, book-passes}
 use Rattle.rules.proofs.Runs.{index-cong}
 use Rattle.rules.proofs.RecordFacts.{record-facts}
+use Rattle.rules.proofs.UnusedPlaces.{unused-share, unused-earned, unused-give}
 use Rattle.rules.proofs.RecordOf.{padded-used, padded-unused, shares-are, tallies-are, record-agrees}
 use Rattle.rules.proofs.Found.{found-readable, found-place, desk-0-fetch, body-record}
 
@@ -54,10 +55,8 @@ sets-part at m l fits =
     ∙ ap (λ (r : List ℕ). r ++ drop (at + m) l) (sym (take-add at m l))
     ∙ take-append-drop (at + m) l
 
--- body k lies within a book of as many bytes as its bodies want
-body-within : (b : List ℕ) → BookFacts b → (k : ℕ) → k < piles b → bodyAt (desks b) (piles b) k + bodyLength (desks b) ≤ length b
-unfolding bodyAt bookLength
-body-within b f k l = omega (arith, f .sized, mul-le-mul-right (bodyLength (desks b)) l, suc-mul k (bodyLength (desks b)))
+body-in : (b : List ℕ) → BookFacts b → (k : ℕ) → k < piles b → bodyAt (desks b) (piles b) k + bodyLength (desks b) ≤ length b
+body-in b f k l = omega (arith, f .sized, body-within (desks b) (piles b) k l)
 
 same-opening : (n : ℕ) (p q : Pile) → Agree n p q → sameOpening n p q ≡ true
 unfolding sameOpening
@@ -102,7 +101,7 @@ module _ (b : List ℕ) (number : ℕ) (o : Octets b) (found : fetchAnswer b num
   store-restores : afterStore b number (recordOf n P) ≡ b
   unfolding afterStore pileOf
   store-restores =
-      let fits = body-within b book k (fetched-place b number found) in
+      let fits = body-in b book k (fetched-place b number found) in
       when-accepted _ _ _ store-passes
       ∙ ap (sets b (bodyAt n (piles b) k)) (body-cong n _ P agrees ∙ write-body n b (bodyAt n (piles b) k) o fits)
       ∙ sets-part (bodyAt n (piles b) k) (bodyLength n) b fits
@@ -118,26 +117,13 @@ padded-is n f j x used unused =
 
 -- a record that passes its own check is the record of every pile that agrees with it
 module _ (r : Record) (passed : recordAnswer r ≡ 0) where
-  unused-shares : (s : Side) (j : ℕ) → j < 8 → r .n ≤ j → recordView r .share s j ≡ 0
-  unfolding recordAnswer unusedShares
-  unused-shares s j j<8 n≤j =
-      let e = and-right _ _ (when-not-done _ _ (orElse-first _ _ (orElse-rest _ _ passed))) in
-      eqb-true _ _ (both-at _ (or-other _ _ (le-ltb j (r .n) n≤j) (every-at 8 _ e j j<8)) s)
+  shares-unused : unusedShares (r .n) (recordView r) ≡ true
+  unfolding recordAnswer
+  shares-unused = and-right _ _ (when-not-done _ _ (orElse-first _ _ (orElse-rest _ _ passed)))
 
   places-unused : unusedPlaces (r .n) (recordView r) ≡ true
   unfolding recordAnswer
   places-unused = and-right _ _ (when-not-done _ _ (orElse-first _ _ (orElse-rest _ _ (orElse-rest _ _ passed))))
-
-  unused-earned : (s : Side) (i : ℕ) → i < 8 → r .n ≤ i → recordView r .earned s i ≡ 0
-  unfolding unusedPlaces
-  unused-earned s i i<8 n≤i =
-      eqb-true _ _ (both-at _ (or-other _ _ (le-ltb i (r .n) n≤i) (and-left _ _ (every-at 8 _ places-unused i i<8))) s)
-
-  unused-give : (s : Side) (i j : ℕ) → i < 8 → j < 8 → (r .n ≤ i) ⊎ (r .n ≤ j) → recordView r .give s i j ≡ 0
-  unfolding unusedPlaces
-  unused-give s i j i<8 j<8 h =
-      eqb-true _ _ (both-at _ (or-other _ _ (⊎-elim (λ l. and-left-fails (le-ltb i (r .n) l) _) (λ l. and-right-fails _ (le-ltb j (r .n) l)) h)
-      (every-at 8 _ (and-right _ _ (every-at 8 _ places-unused i i<8)) j j<8)) s)
 
   pub record-of-agreeing : length (r .shares) ≡ 16 → length (r .tallies) ≡ 144 → (p : Pile) → Agree (r .n) p (recordView r) → recordOf (r .n) p ≡ r
   unfolding recordOf
@@ -148,14 +134,14 @@ module _ (r : Record) (passed : recordAnswer r ≡ 0) where
       shares-same =
           shares-are (r .n) p (r .shares) shares (λ s j j<8.
           ap₂ (λ (x y : ℕ). getD (x ∷ y ∷ r .shares) (column 8 s j) 0) (a .floor) (a .top)
-          ∙ padded-is (r .n) (p .share s) j _ (a .share s j) (unused-shares s j j<8))
+          ∙ padded-is (r .n) (p .share s) j _ (a .share s j) (λ n≤j. unused-share (r .n) (recordView r) shares-unused s j n≤j j<8))
 
       tallies-same : r .tallies ≡ recordOf (r .n) p .tallies
       tallies-same =
-          tallies-are (r .n) p (r .tallies) tallies (λ s i i<8. padded-is (r .n) (p .earned s) i _ (a .earned s i) (unused-earned s i i<8))
+          tallies-are (r .n) p (r .tallies) tallies (λ s i i<8. padded-is (r .n) (p .earned s) i _ (a .earned s i) (λ n≤i. unused-earned (r .n) (recordView r) places-unused s i n≤i i<8))
           (λ s i j i<8 j<8. padded-is (r .n) (λ i. padded (r .n) (p .give s i) j) i _
-          (λ l. sym (padded-is (r .n) (p .give s i) j _ (a .give s i j l) (λ n≤j. unused-give s i j i<8 j<8 (inr n≤j))))
-          (λ n≤i. unused-give s i j i<8 j<8 (inl n≤i)))
+          (λ l. sym (padded-is (r .n) (p .give s i) j _ (a .give s i j l) (λ n≤j. unused-give (r .n) (recordView r) places-unused s i j i<8 j<8 (inr n≤j))))
+          (λ n≤i. unused-give (r .n) (recordView r) places-unused s i j i<8 j<8 (inl n≤i)))
 
 -- a lawful pile written over body k of a readable book: it is read there, and every other number of the book is as it was
 abbrev pub storedAt : List ℕ → ℕ → Pile → List ℕ
@@ -192,7 +178,7 @@ module _ (b : List ℕ) (k : ℕ) (q : Pile) (h : Stores b k q) where
   -- the body itself, and each other body
   pub stored-pile : Agree (desks b) (bodyView (desks b) written (bodyOf k)) q
   stored-pile =
-      let within = body-within b (h .book) k (h .pile-in) in
+      let within = body-in b (h .book) k (h .pile-in) in
       let len = length-body (desks b) q in
       read-body (desks b) q (lawful-fits (desks b) q (h .lawful)) written (bodyOf k)
       (part-is (bodyOf k) (bodyLength (desks b)) written (bodyBytes (desks b) q) (omega (arith, length-written)) len
@@ -208,7 +194,7 @@ module _ (b : List ℕ) (k : ℕ) (q : Pile) (h : Stores b k q) where
   pub other-piles : (k′ : ℕ) → k′ < piles b → k′ ≢ k → Agree (desks b) (bodyView (desks b) written (bodyOf k′)) (pileOf b k′)
   unfolding pileOf
   other-piles k′ l d =
-      let within = body-within b (h .book) k′ l in
+      let within = body-in b (h .book) k′ l in
       let m = bodyLength (desks b) in
       read-body (desks b) (pileOf b k′) (lawful-fits (desks b) _ (facts (desks b) _ (h .book .bodies k′ l))) written (bodyOf k′)
       (part-is (bodyOf k′) m written (part (bodyOf k′) m b) (omega (arith, length-written)) (length-part (bodyOf k′) m b within)

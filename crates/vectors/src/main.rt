@@ -1,5 +1,5 @@
-// The worked book's pile as a record, and then (`file.rt`) its file. The record: F, the acts that make G of it, and what the table refuses on the way and from G. Each line has the act, its
-// number, and then the tonnage and the draw and tip rights of desks 0, 1 and 2 of the record that came back.
+// The worked book's pile as a record, and then (`file.rt`) its file. The record: F, the acts that make G of it, and what the table refuses on the way
+// and from G. Each line has the act, its number, and then the tonnage and the draw and tip rights of desks 0, 1 and 2 of the record that came back.
 mod file;
 
 use libc::STDOUT_FILENO;
