@@ -14,5 +14,5 @@ test:
 # Proves the rules, the record and the file, lists cases a to j of document 01, which one theorem of the rules says hold, and runs the worked book.
 run:
 	@$(RT) check rules vectors
-	@sed -n 's/^ *-- \([a-j]\): \(.*\)/case \1 holds: \2/p' crates/rules/proofs/Cases.antt
+	@sed -n 's/^.*case "\(.*\)".*$$/holds: \1/p' crates/rules/proofs/Cases/Letters.antt crates/rules/proofs/Cases/Places.antt
 	@target/bin/vectors

@@ -9,3 +9,4 @@ pub mod Accepted
 pub mod Sequential
 pub mod Demand
 pub mod Guarantees
+pub mod Refuted

@@ -1,0 +1,114 @@
+-- A table of cases: each row says in words what is computed, what the definitions give, and what document 01 has there.
+-- Assumes nothing.
+use Prim.Native.Nat.{ℕ}
+use Prim.Native.String.{String}
+use mathlib.Core.Path.{_≡_, refl, ap₂}
+use mathlib.Core.Bool.{Bool, true, false, cond, false≢true}
+use mathlib.Core.List.{List, [], _∷_}
+use lib.Dec.{eqb}
+use borrow.Author.Tests.{eqb-true}
+use Rattle.rules.specs.Loops.{_and_, _or_, between, sum, every, some, index, flat, list}
+use Rattle.rules.specs.Refusals.{_when_, _orElse_, first, done, Reply, refused, value, reply}
+use Rattle.rules.specs.Numbers.{number, bytes, encode}
+use Rattle.rules.specs.Pile.{bothSides, credit, debit, rights, lawful, tonnage, openingLawful, talliesLawful, pileAnswer, sameOpening}
+use Rattle.rules.specs.Acts.{Kind, Act, actRefusal}
+use Rattle.rules.specs.Layout.{rowLength, bodyLength, bodyAt, bookLength, cellAt, pileNumber, position, pileOf, rowOf, bodyRow, bodyBytes, entryBytes, bookBytes}
+use Rattle.rules.specs.Rows.{atLeast, alike, later, split, isRowLength, laterRow}
+use Rattle.rules.specs.Opening.{rising, given, givenPile, openingAnswer, opened, afterOpening}
+use Rattle.rules.specs.Book.{headRight, contentsRight, bookAnswer, place, absent, contentsAnswer, afterContents, fetchAnswer, bodyPart, tonnageReply, deskAnswer, rightsReply, actAnswer, tallyAt, afterAct}
+use Rattle.rules.specs.Record.{unusedShares, unusedPlaces, recordAnswer, freshAnswer, recordTonnageReply, recordDeskAnswer, recordRightsReply, recordActAnswer, paddedRow, recordOf, fetched, storeAnswer, afterStore}
+use Rattle.rules.specs.Take.{rowPart, sameBook, rowAnswer, takeAnswer, takenRow, taken, afterTake}
+
+pub record Case : Type 0 where
+  pub says : String
+  pub got : List ℕ
+  pub said : List ℕ
+
+abbrev pub case : String → List ℕ → List ℕ → Case
+case says got said = record { says = says; got = got; said = said }
+
+abbrev pub AllHold : List Case → Type 0
+AllHold [] = Unit {0}
+AllHold (c ∷ cs) = (c .got ≡ c .said) × AllHold cs
+
+-- A row holds where its two lists have the same numbers. antt computes the test for a whole table, and the law makes equations of it.
+abbrev same : List ℕ → List ℕ → Bool
+same [] [] = true
+same [] (y ∷ ys) = false
+same (x ∷ xs) [] = false
+same (x ∷ xs) (y ∷ ys) = cond (eqb x y) (same xs ys) false
+
+abbrev pub test : List Case → Bool
+test [] = true
+test (c ∷ cs) = cond (same (c .got) (c .said)) (test cs) false
+
+both : (a b : Bool) → cond a b false ≡ true → (a ≡ true) × (b ≡ true)
+both true b e = (refl, e)
+both false b e = absurd (false≢true e)
+
+same-numbers : (xs ys : List ℕ) → same xs ys ≡ true → xs ≡ ys
+same-numbers [] [] e = refl
+same-numbers [] (y ∷ ys) e = absurd (false≢true e)
+same-numbers (x ∷ xs) [] e = absurd (false≢true e)
+same-numbers (x ∷ xs) (y ∷ ys) e = let h = both _ _ e in ap₂ (λ (z : ℕ) (zs : List ℕ). z ∷ zs) (eqb-true x y (h .0)) (same-numbers xs ys (h .1))
+
+pub all-hold : (cs : List Case) → test cs ≡ true → AllHold cs
+all-hold [] e = tt
+all-hold (c ∷ cs) e = let h = both _ _ e in (same-numbers (c .got) (c .said) (h .0), all-hold cs (h .1))
+
+-- a reply as numbers: a value behind 0, a refusal alone
+abbrev pub shown : Reply → List ℕ
+shown (refused k) = k ∷ []
+shown (value x) = 0 ∷ x ∷ []
+
+-- an act on a pile, and the book after it
+abbrev pub actOn : ℕ → Kind → ℕ → Act
+actOn pile kind t = record { kind = kind; pile = pile; amount = t }
+
+abbrev pub enter : ℕ → ℕ → Kind → ℕ → List ℕ → List ℕ
+enter i pile kind t b = afterAct i (actOn pile kind t) b
+
+-- What a theorem that computes has to open: a name for each file of definitions.
+unfoldable pub loops : Unit {0}
+unfolding _and_ _or_ between sum every some index flat list
+loops = tt
+
+unfoldable pub refusals : Unit {0}
+unfolding _when_ _orElse_ first done reply
+refusals = tt
+
+unfoldable pub numbers : Unit {0}
+unfolding number bytes encode
+numbers = tt
+
+unfoldable pub piles : Unit {0}
+unfolding bothSides credit debit rights lawful tonnage openingLawful talliesLawful pileAnswer sameOpening
+piles = tt
+
+unfoldable pub acts : Unit {0}
+unfolding actRefusal
+acts = tt
+
+unfoldable pub layout : Unit {0}
+unfolding rowLength bodyLength bodyAt bookLength cellAt pileNumber position pileOf rowOf bodyRow bodyBytes entryBytes bookBytes
+layout = tt
+
+unfoldable pub rows : Unit {0}
+unfolding atLeast alike later split isRowLength laterRow
+rows = tt
+
+unfoldable pub opening : Unit {0}
+unfolding rising given givenPile openingAnswer opened afterOpening
+opening = tt
+
+unfoldable pub books : Unit {0}
+unfolding headRight contentsRight bookAnswer place absent contentsAnswer afterContents fetchAnswer bodyPart tonnageReply deskAnswer rightsReply actAnswer tallyAt afterAct
+books = tt
+
+unfoldable pub records : Unit {0}
+unfolding unusedShares unusedPlaces recordAnswer freshAnswer recordTonnageReply recordDeskAnswer recordRightsReply recordActAnswer paddedRow recordOf fetched storeAnswer afterStore
+records = tt
+
+unfoldable pub takes : Unit {0}
+unfolding rowPart sameBook rowAnswer takeAnswer takenRow taken afterTake
+takes = tt
