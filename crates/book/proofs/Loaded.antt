@@ -15,10 +15,10 @@ use Rattle.rules.specs.Loops.{list}
 use Rattle.rules.specs.Pile.{Side, draw, tip, Pile}
 use Rattle.rules.specs.Layout.{earnedColumn, column}
 use Rattle.rules.specs.Record.{padded, recordOf}
-use Rattle.rules.proofs.Put.{getD-sets-in, getD-sets-other}
-use Rattle.rules.proofs.Body.{column-below}
-use Rattle.rules.proofs.Flat.{length-list, getD-list}
-use Rattle.rules.proofs.RecordOf.{padded-used, padded-unused, shares-are, tallies-are}
+use Rattle.rules.proofs.Loops.Pieces.{length-list, getD-list}
+use Rattle.rules.proofs.Bytes.Put.{getD-sets-in, getD-sets-other}
+use Rattle.rules.proofs.File.Body.{column-below}
+use Rattle.rules.proofs.Record.RecordOf.{padded-used, padded-unused, shares-are, tallies-are}
 
 -- what stands in an array after a run of m numbers was read into it
 run-in : (l : List ℕ) (at m : ℕ) (f : ℕ → ℕ) (j : ℕ) → at + m ≤ length l → j < m → getD (sets l at (list m f)) (at + j) 0 ≡ f j

@@ -15,7 +15,8 @@ use Rattle.rules.specs.Pile.{pileAnswer, sameOpening}
 use Rattle.rules.specs.Layout.{desks, piles, bookLength, bodyAt, pileOf, bodyBytes}
 use Rattle.rules.specs.Book.{headRight, contentsRight, bookAnswer, place, absent, fetchAnswer, deskAnswer}
 use Rattle.rules.specs.Record.{Record, recordView, recordAnswer, storeAnswer, afterStore}
-use Rattle.rules.proofs.Tests.{and-left, and-right, orElse-stands, orElse-passes, when-accepted, when-refused}
+use Rattle.rules.proofs.Loops.Logic.{and-left, and-right}
+use Rattle.rules.proofs.Loops.Refusals.{orElse-stands, orElse-passes, when-accepted, when-refused}
 
 module _ (b : List ℕ) where
   pub number-1 : length b < 4 → 1 ≡ bookAnswer b

@@ -15,15 +15,14 @@ use Rattle.rules.specs.Numbers.{bytes, afterPut}
 use Rattle.rules.specs.Layout.{bodyLength, bodyAt, bookLength, bodyBytes, entryBytes, bookBytes}
 use Rattle.rules.specs.Record.{Record, recordView, recordOf}
 use Rattle.rules.specs.Opening.{given, givenPile, openingAnswer, opened}
-use Rattle.rules.proofs.Tests.{when-done, when-not-done, orElse-first, orElse-rest}
-use Rattle.rules.proofs.Bytes.{length-bytes}
-use Rattle.rules.proofs.Body.{length-body}
-use Rattle.rules.proofs.Put.{sets-append}
-use Rattle.rules.proofs.Congruence.{body-cong}
-use Rattle.rules.proofs.RecordOf.{record-agrees}
-use Rattle.rules.proofs.Written.{length-entry, length-contents}
-use Rattle.rules.proofs.LawfulBook.{Frame}
-use Rattle.rules.proofs.Opened.{opened-frame}
+use Rattle.rules.proofs.Loops.Refusals.{when-done, when-not-done, orElse-first, orElse-rest}
+use Rattle.rules.proofs.Bytes.Numbers.{length-bytes}
+use Rattle.rules.proofs.Bytes.Put.{sets-append}
+use Rattle.rules.proofs.File.Body.{length-body, body-cong}
+use Rattle.rules.proofs.File.Written.{length-entry, length-contents}
+use Rattle.rules.proofs.File.LawfulBook.{Frame}
+use Rattle.rules.proofs.File.Opened.{opened-frame}
+use Rattle.rules.proofs.Record.RecordOf.{record-agrees}
 use Rattle.book.proofs.Saved.{put-fits, sets-piece}
 
 abbrev pub body : ℕ → List ℕ → ℕ → List ℕ

@@ -10,9 +10,10 @@ use Rattle.rules.specs.Pile.{Side}
 use Rattle.rules.specs.Layout.{bodyLength, desks, piles, position, pileOf}
 use Rattle.rules.specs.Book.{bookAnswer, place, fetchAnswer, deskAnswer, bodyPart, tonnageReply, rightsReply}
 use Rattle.rules.specs.Record.{Record, zeroRecord, recordOf, recordTonnageReply, recordRightsReply, fetched}
-use Rattle.rules.proofs.Tests.{when-accepted, when-refused}
-use Rattle.rules.proofs.Refused.{fetch-refused, body-refused}
-use Rattle.rules.proofs.Found.{found-readable, found-desk, found-place, desk-0-fetch, body-tonnage, body-rights}
+use Rattle.rules.proofs.Loops.Refusals.{when-accepted, when-refused}
+use Rattle.rules.proofs.File.Found.{found-readable, found-desk, found-place, desk-0-fetch}
+use Rattle.rules.proofs.File.Refused.{fetch-refused, body-refused}
+use Rattle.rules.proofs.Record.OfBody.{body-tonnage, body-rights}
 
 module _ (i : ℕ) (b : List ℕ) (number : ℕ) {m : ℕ} (answer : m ≡ deskAnswer i b number) where
   -- the pile was not found

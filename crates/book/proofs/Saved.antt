@@ -13,11 +13,11 @@ use Rattle.rules.specs.Loops.{flat, list}
 use Rattle.rules.specs.Numbers.{bytes, encode, putAnswer, afterPut}
 use Rattle.rules.specs.Layout.{rowLength, bodyLength, rowOf, bodyRow, bodyBytes}
 use Rattle.rules.specs.Record.{Record, recordCell, recordView}
-use Rattle.rules.proofs.Tests.{not-met, when-accepted}
-use Rattle.rules.proofs.Flat.{length-flat, flat-cong, length-list, list-add, list-cong}
-use Rattle.rules.proofs.Bytes.{encode-append, length-encode}
-use Rattle.rules.proofs.Body.{length-body-row}
-use Rattle.rules.proofs.Put.{sets-append}
+use Rattle.rules.proofs.Loops.Refusals.{not-met, when-accepted}
+use Rattle.rules.proofs.Loops.Pieces.{length-flat, flat-cong, length-list, list-add, list-cong}
+use Rattle.rules.proofs.Bytes.Numbers.{encode-append, length-encode}
+use Rattle.rules.proofs.Bytes.Put.{sets-append}
+use Rattle.rules.proofs.File.Body.{length-body-row}
 
 -- a number that fits is written
 pub put-fits : (w : ℕ) (b : List ℕ) (at x : ℕ) → at + w ≤ length b → afterPut w b at x ≡ sets b at (bytes w x)

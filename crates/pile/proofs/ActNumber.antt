@@ -13,7 +13,7 @@ use Rattle.rules.specs.Pile.{rights, tallyLimit, amountLimit}
 use Rattle.rules.specs.Acts.{Kind, spend, give, side, tally, receiverWrong, actRefusal}
 use Rattle.rules.specs.Layout.{actColumn}
 use Rattle.rules.specs.Record.{Record, recordView, recordAnswer, recordDeskAnswer, recordActAnswer, recordAfterAct}
-use Rattle.rules.proofs.Tests.{when-accepted, orElse-stands}
+use Rattle.rules.proofs.Loops.Refusals.{when-accepted, orElse-stands}
 
 -- the tally of an act stands at its column of the desk's row
 pub tally-at : (r : Record) (i : ℕ) (kind : Kind) → tally (recordView r) i kind ≡ getD (r .tallies) (i * 18 + actColumn 8 kind) 0

@@ -10,7 +10,7 @@ use borrow.Author.Tests.{lt-ltb, le-ltb}
 use Rattle.rules.specs.Refusals.{_when_, _orElse_, refused, value, reply}
 use Rattle.rules.specs.Pile.{Side, rights, tonnage}
 use Rattle.rules.specs.Record.{Record, recordView, recordAnswer, recordDeskAnswer, recordTonnageReply, recordRightsReply}
-use Rattle.rules.proofs.Tests.{when-accepted, when-refused, orElse-stands}
+use Rattle.rules.proofs.Loops.Refusals.{when-accepted, when-refused, orElse-stands}
 
 -- a refusal's number alone
 refuses : (m x : ℕ) → m ≢ 0 → refused m ≡ reply m x

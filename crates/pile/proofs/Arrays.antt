@@ -12,7 +12,8 @@ use mathlib.Core.List.{List}
 use lib.ListN.{length, getD, set}
 use lib.Seq.{getD-set-same, getD-set-other}
 use Rattle.rules.specs.Loops.{sum, every}
-use Rattle.rules.proofs.Tests.{same, every-at, every-all, every-next}
+use Rattle.rules.proofs.Loops.Logic.{same}
+use Rattle.rules.proofs.Loops.Every.{every-at, every-all, every-next}
 
 pub sum-next : (k : ℕ) (f : ℕ → ℕ) → sum (k + 1) f ≡ sum k f + f k
 unfolding sum

@@ -7,8 +7,8 @@ use mathlib.Core.List.{List}
 use lib.ListN.{getD}
 use Rattle.rules.specs.Pile.{Side}
 use Rattle.rules.specs.Record.{Record, recordView, recordAnswer}
-use Rattle.rules.proofs.Tonnage.{tonnage-within}
-use Rattle.rules.proofs.RecordFacts.{record-range, record-facts, rights-most}
+use Rattle.rules.proofs.Pile.Tonnage.{tonnage-within, rights-most}
+use Rattle.rules.proofs.Record.Facts.{record-range, record-facts}
 use Rattle.pile.specs.View.{Audited}
 
 module _ {r : Record} {number weight : ℕ} {left : Side → List ℕ} (a : Audited r number weight left) (z : number ≡ 0) where

@@ -11,9 +11,10 @@ use lib.Dec.{leb}
 use Rattle.rules.specs.Loops.{_and_, sum, every}
 use Rattle.rules.specs.Pile.{Side, draw, tip, other, Pile, credit, debit, lawful}
 use Rattle.rules.specs.Record.{Record, recordView}
-use Rattle.rules.proofs.Tests.{same, and-left, and-right, and-both, every-at, every-all}
-use Rattle.rules.proofs.Sums.{sum-cong}
-use Rattle.rules.proofs.Facts.{both-at, both-all}
+use Rattle.rules.proofs.Loops.Logic.{same, and-left, and-right, and-both}
+use Rattle.rules.proofs.Loops.Every.{every-at, every-all}
+use Rattle.rules.proofs.Loops.Sums.{sum-cong}
+use Rattle.rules.proofs.Pile.Facts.{both-at, both-all}
 use Rattle.pile.specs.Account.{shareOf, earnedBy, spentBy, givenBy, Accounted}
 
 abbrev pub sideNumber : Side → ℕ

@@ -11,8 +11,8 @@ use lib.Seq.{getD-set-same, getD-set-other}
 use lib.Dec.{eqb}
 use borrow.Author.Tests.{eqb-true, eqb-false}
 use Rattle.rules.specs.Loops.{sum}
-use Rattle.rules.proofs.Tests.{decided}
-use Rattle.rules.proofs.Sums.{sum-cong, sum-add, sum-at}
+use Rattle.rules.proofs.Loops.Logic.{decided}
+use Rattle.rules.proofs.Loops.Sums.{sum-cong, sum-add, sum-at}
 use Rattle.pile.proofs.Arrays.{sum-next}
 
 -- what row m adds to the credit of desk k

@@ -14,10 +14,11 @@ use Rattle.rules.specs.Loops.{_and_, every}
 use Rattle.rules.specs.Pile.{Side, draw, tip, Pile, tallyLimit, talliesLawful}
 use Rattle.rules.specs.Layout.{column, earnedColumn}
 use Rattle.rules.specs.Record.{Record, recordView, unusedShares, unusedPlaces}
-use Rattle.rules.proofs.Tests.{same, and-left, and-right, and-both, every-at, every-all, or-first, or-second}
-use Rattle.rules.proofs.Facts.{both-at, both-all}
-use Rattle.rules.proofs.UnusedPlaces.{unused-share, unused-earned, unused-give}
-use Rattle.rules.proofs.Body.{by-column, column-below}
+use Rattle.rules.proofs.Loops.Logic.{same, and-left, and-right, and-both, or-first, or-second}
+use Rattle.rules.proofs.Loops.Every.{every-at, every-all}
+use Rattle.rules.proofs.Pile.Facts.{both-at, both-all}
+use Rattle.rules.proofs.File.Body.{by-column, column-below}
+use Rattle.rules.proofs.Record.Unused.{unused-share, unused-earned, unused-give}
 use Rattle.pile.specs.Account.{rowRight}
 use Rattle.pile.proofs.Checked.{sideNumber, share-at, earned-at, give-at}
 

@@ -13,10 +13,10 @@ use Rattle.rules.specs.Refusals.{_when_, _orElse_}
 use Rattle.rules.specs.Layout.{deskLimit}
 use Rattle.rules.specs.Pile.{Side, draw, tip, Pile, credit, debit, rights, topLimit, openingLawful, talliesLawful, lawful}
 use Rattle.rules.specs.Record.{Record, recordView, recordAnswer, unusedShares, unusedPlaces}
-use Rattle.rules.proofs.Tests.{and-left, and-right, and-both}
-use Rattle.rules.proofs.Sums.{sum-cong}
-use Rattle.rules.proofs.Tonnage.{tonnage-floor}
-use Rattle.rules.proofs.RecordFacts.{record-facts}
+use Rattle.rules.proofs.Loops.Logic.{and-left, and-right, and-both}
+use Rattle.rules.proofs.Loops.Sums.{sum-cong}
+use Rattle.rules.proofs.Pile.Tonnage.{tonnage-floor}
+use Rattle.rules.proofs.Record.Facts.{record-facts}
 use Rattle.pile.specs.Account.{Accounted, Balanced}
 use Rattle.pile.specs.View.{Audited, bySide}
 use Rattle.pile.proofs.Checked.{total-is, credit-is, debit-is, lawful-is}

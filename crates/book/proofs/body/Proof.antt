@@ -7,7 +7,7 @@ use lib.ListN.{length}
 use Rattle.rules.specs.Numbers.{part}
 use Rattle.rules.specs.Layout.{desks, piles, position}
 use Rattle.rules.specs.Book.{bookAnswer}
-use Rattle.rules.proofs.Readable.{BookFacts, book-facts}
+use Rattle.rules.proofs.File.Readable.{BookFacts, book-facts}
 use borrow.Author.Needs.{needs}
 use Rattle.book.proofs.Lengths.{body-within}
 use Rattle.book.proofs.Replies.{place-is, part-refused, part-found}

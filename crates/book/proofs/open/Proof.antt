@@ -5,7 +5,7 @@ use native.Mathlib.Omega.{arith}
 use mathlib.Core.Path.{_≡_, sym, _∙_}
 use lib.ListN.{length}
 use Rattle.rules.specs.Opening.{openingAnswer, afterOpening}
-use Rattle.rules.proofs.Tests.{when-accepted, when-refused}
+use Rattle.rules.proofs.Loops.Refusals.{when-accepted, when-refused}
 use Rattle.book.proofs.Lengths.{contents-within}
 use Rattle.book.proofs.Opened.{put-book, Accepted, accepted-facts}
 use borrow.Author.Needs.{needs}

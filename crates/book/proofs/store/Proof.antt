@@ -9,11 +9,11 @@ use Rattle.rules.specs.Pile.{sameOpening}
 use Rattle.rules.specs.Layout.{desks, piles, bodyAt, pileOf}
 use Rattle.rules.specs.Book.{fetchAnswer, deskAnswer, place}
 use Rattle.rules.specs.Record.{Record, recordView, recordAnswer}
-use Rattle.rules.proofs.Tests.{holds, fails, and-both, and-left-fails, and-right-fails}
-use Rattle.rules.proofs.Readable.{BookFacts, book-facts}
-use Rattle.rules.proofs.Congruence.{same-opening-cong}
-use Rattle.rules.proofs.RecordOf.{record-agrees}
-use Rattle.rules.proofs.Found.{found-readable, found-place, desk-0-fetch}
+use Rattle.rules.proofs.Loops.Logic.{holds, fails, and-both, and-left-fails, and-right-fails}
+use Rattle.rules.proofs.Pile.Agree.{same-opening-cong}
+use Rattle.rules.proofs.File.Readable.{BookFacts, book-facts}
+use Rattle.rules.proofs.File.Found.{found-readable, found-place, desk-0-fetch}
+use Rattle.rules.proofs.Record.RecordOf.{record-agrees}
 use Rattle.pile.specs.View.{asRecord}
 use Rattle.book.proofs.Lengths.{body-within}
 use Rattle.book.proofs.Numbers.{store-refused, store-own, store-record, store-30, store-accepted}

@@ -6,7 +6,7 @@ use mathlib.Core.Logic.{⊎-elim}
 use native.Mathlib.Omega.{arith}
 use borrow.Author.Tests.{ltb-true, ltb-false, lt-ltb, le-ltb}
 use lib.Dec.{ltb}
-use Rattle.rules.proofs.Tests.{decided}
+use Rattle.rules.proofs.Loops.Logic.{decided}
 use Rattle.number.proofs.short.Statement.{statement}
 use Rattle.number.proofs.short.Tie as tie
 

@@ -3,7 +3,7 @@
 use native.Mathlib.Omega.{arith}
 use mathlib.Core.Path.{_≡_, sym, _∙_}
 use Rattle.rules.specs.Book.{bookAnswer, place}
-use Rattle.rules.proofs.Readable.{BookFacts, book-facts}
+use Rattle.rules.proofs.File.Readable.{BookFacts, book-facts}
 use borrow.Author.Needs.{needs}
 use Rattle.book.proofs.Lengths.{contents-within}
 use Rattle.book.proofs.Numbers.{desk-own, desk-11, desk-10, desk-0}

@@ -5,7 +5,7 @@ use native.Mathlib.Omega.{arith}
 use mathlib.Core.Path.{ap, _∙_}
 use Rattle.rules.specs.Layout.{bodyView, desks, piles, pileOf}
 use Rattle.rules.specs.Record.{recordOf}
-use Rattle.rules.proofs.Readable.{BookFacts, book-facts}
+use Rattle.rules.proofs.File.Readable.{BookFacts, book-facts}
 use borrow.Author.Needs.{needs}
 use Rattle.book.proofs.Lengths.{body-within}
 use Rattle.book.proofs.find.load_body.Statement.{statement}

@@ -7,7 +7,7 @@ use lib.ListN.{length}
 use lib.Seq.{sets}
 use Rattle.rules.specs.Loops.{flat}
 use Rattle.rules.specs.Layout.{bodyAt}
-use Rattle.rules.proofs.Tests.{first-at}
+use Rattle.rules.proofs.Loops.Refusals.{first-at}
 use Rattle.book.proofs.Lengths.{given-within, body-next, body-within, position-most}
 use Rattle.book.proofs.Opened.{body, put-given}
 use borrow.Author.Needs.{needs}

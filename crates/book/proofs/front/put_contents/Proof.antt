@@ -6,7 +6,7 @@ use mathlib.Core.Path.{_≡_, refl}
 use lib.ListN.{length, getD}
 use lib.Seq.{sets}
 use Rattle.rules.specs.Loops.{flat}
-use Rattle.rules.proofs.LawfulBook.{number-most}
+use Rattle.rules.proofs.File.Rising.{number-most}
 use Rattle.book.proofs.Lengths.{position-most, given-most, given-within, given-number}
 use Rattle.book.proofs.Opened.{entry, put-entry}
 use borrow.Author.Needs.{needs}

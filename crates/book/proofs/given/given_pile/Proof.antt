@@ -3,7 +3,7 @@
 use mathlib.Core.Path.{refl, sym, _∙_}
 use borrow.Author.Needs.{needs}
 use Rattle.rules.specs.Opening.{given, givenPile}
-use Rattle.rules.proofs.FreshRecord.{fresh-answer, fresh-record}
+use Rattle.rules.proofs.Record.Fresh.{fresh-answer, fresh-record}
 use Rattle.book.proofs.given.given_pile.Statement.{statement}
 use Rattle.book.proofs.given.given_pile.Tie as tie
 

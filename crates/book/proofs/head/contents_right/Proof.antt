@@ -11,7 +11,8 @@ use borrow.Author.Tests.{eq-eqb, ne-eqb, lt-ltb, le-ltb, le-leb}
 use Rattle.rules.specs.Loops.{every}
 use Rattle.rules.specs.Layout.{pileNumberLimit, bodyAt, pileNumber, position}
 use Rattle.rules.specs.Opening.{previous, rising}
-use Rattle.rules.proofs.Tests.{every-next, every-stops, and-both, and-left-fails, and-right-fails}
+use Rattle.rules.proofs.Loops.Logic.{and-both, and-left-fails, and-right-fails}
+use Rattle.rules.proofs.Loops.Every.{every-next, every-stops}
 use Rattle.book.proofs.head.contents_right.Statement.{statement}
 use Rattle.book.proofs.head.contents_right.Tie as tie
 

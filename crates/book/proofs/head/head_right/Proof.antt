@@ -5,7 +5,7 @@ use borrow.Author.Needs.{needs}
 use borrow.Author.Tests.{eq-eqb, ne-eqb, le-leb, lt-leb}
 use Rattle.rules.specs.Loops.{between}
 use Rattle.rules.specs.Book.{headRight}
-use Rattle.rules.proofs.Tests.{and-both, and-left-holds, and-left-fails, and-right-fails}
+use Rattle.rules.proofs.Loops.Logic.{and-both, and-left-holds, and-left-fails, and-right-fails}
 use Rattle.book.proofs.head.head_right.Statement.{statement}
 use Rattle.book.proofs.head.head_right.Tie as tie
 

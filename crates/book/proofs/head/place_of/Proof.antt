@@ -8,7 +8,7 @@ use borrow.Author.Needs.{needs}
 use borrow.Author.Tests.{eq-eqb, ne-eqb}
 use Rattle.rules.specs.Loops.{index}
 use Rattle.rules.specs.Layout.{pileNumber}
-use Rattle.rules.proofs.Tests.{index-next, index-stops}
+use Rattle.rules.proofs.Loops.Every.{index-next, index-stops}
 use Rattle.book.proofs.head.place_of.Statement.{statement}
 use Rattle.book.proofs.head.place_of.Tie as tie
 

@@ -10,7 +10,8 @@ use borrow.Author.Needs.{needs}
 use borrow.Author.Tests.{lt-ltb, le-ltb, le-leb, lt-leb}
 use Rattle.rules.specs.Loops.{every}
 use Rattle.rules.specs.Opening.{previous, rising, given}
-use Rattle.rules.proofs.Tests.{every-next, every-stops, and-both, and-left-fails, and-right-fails}
+use Rattle.rules.proofs.Loops.Logic.{and-both, and-left-fails, and-right-fails}
+use Rattle.rules.proofs.Loops.Every.{every-next, every-stops}
 use Rattle.book.proofs.Lengths.{given-most, given-within, given-number}
 use Rattle.book.proofs.opening.numbers_rise.Statement.{statement}
 use Rattle.book.proofs.opening.numbers_rise.Tie as tie

@@ -14,7 +14,8 @@ use Rattle.rules.specs.Refusals.{_when_, _orElse_, first}
 use Rattle.rules.specs.Pile.{openingLawful}
 use Rattle.rules.specs.Layout.{bookLength}
 use Rattle.rules.specs.Opening.{rising, given, givenPile, openingAnswer}
-use Rattle.rules.proofs.Tests.{holds, fails, and-both, and-left-fails, and-right-fails, orElse-stands, not-met, none-met}
+use Rattle.rules.proofs.Loops.Logic.{holds, fails, and-both, and-left-fails, and-right-fails}
+use Rattle.rules.proofs.Loops.Refusals.{orElse-stands, not-met, none-met}
 use Rattle.book.proofs.Lengths.{given-most}
 use Rattle.book.proofs.opening.opening_number.Statement.{statement}
 use Rattle.book.proofs.opening.opening_number.Tie as tie

@@ -8,7 +8,7 @@ use borrow.Author.Needs.{needs}
 use Rattle.rules.specs.Refusals.{_when_, first}
 use Rattle.rules.specs.Pile.{openingLawful}
 use Rattle.rules.specs.Opening.{givenPile}
-use Rattle.rules.proofs.Tests.{first-next, first-stops}
+use Rattle.rules.proofs.Loops.Refusals.{first-next, first-stops}
 use Rattle.book.proofs.Lengths.{given-within}
 use Rattle.book.proofs.opening.openings_number.Statement.{statement}
 use Rattle.book.proofs.opening.openings_number.Tie as tie

@@ -7,9 +7,9 @@ use Rattle.rules.specs.Refusals.{first}
 use Rattle.rules.specs.Pile.{pileAnswer}
 use Rattle.rules.specs.Layout.{bodyView, bodyAt}
 use Rattle.rules.specs.Record.{recordAnswer}
-use Rattle.rules.proofs.Tests.{first-next, first-stops}
-use Rattle.rules.proofs.Readable.{lengths}
-use Rattle.rules.proofs.RecordOf.{record-of-answer}
+use Rattle.rules.proofs.Loops.Refusals.{first-next, first-stops}
+use Rattle.rules.proofs.File.Readable.{lengths}
+use Rattle.rules.proofs.Record.RecordOf.{record-of-answer}
 use borrow.Author.Needs.{needs}
 use Rattle.book.proofs.Lengths.{body-next, body-within}
 use Rattle.book.proofs.readable.bodies_number.Statement.{statement}

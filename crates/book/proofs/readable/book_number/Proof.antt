@@ -6,7 +6,7 @@ use mathlib.Core.Bool.{true}
 use lib.ListN.{length}
 use Rattle.rules.specs.Layout.{bookLength, desks, piles, pileOf}
 use Rattle.rules.specs.Book.{headRight, contentsRight}
-use Rattle.rules.proofs.Tests.{holds, fails}
+use Rattle.rules.proofs.Loops.Logic.{holds, fails}
 use borrow.Author.Needs.{needs}
 use Rattle.book.proofs.Lengths.{contents-within}
 use Rattle.book.proofs.Numbers.{number-1, number-2, desks-range, piles-range, number-3, number-4, number-of-bodies}

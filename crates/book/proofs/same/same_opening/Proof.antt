@@ -14,7 +14,8 @@ use Rattle.rules.specs.Loops.{_and_, every}
 use Rattle.rules.specs.Pile.{bothSides, sameOpening}
 use Rattle.rules.specs.Record.{Record, recordView}
 use Rattle.pile.specs.View.{asRecord}
-use Rattle.rules.proofs.Tests.{and-both, and-left-fails, and-right-fails, every-cong, every-next, every-stops}
+use Rattle.rules.proofs.Loops.Logic.{and-both, and-left-fails, and-right-fails}
+use Rattle.rules.proofs.Loops.Every.{every-cong, every-next, every-stops}
 use Rattle.book.proofs.same.same_opening.Statement.{statement}
 use Rattle.book.proofs.same.same_opening.Tie as tie
 

@@ -7,7 +7,7 @@ use lib.ListN.{length, getD}
 use lib.Seq.{sets}
 use Rattle.rules.specs.Loops.{flat}
 use Rattle.rules.specs.Numbers.{bytes}
-use Rattle.rules.proofs.Bytes.{length-bytes, encode-list}
+use Rattle.rules.proofs.Bytes.Numbers.{length-bytes, encode-list}
 use Rattle.book.proofs.Saved.{put-fits, sets-piece}
 use borrow.Author.Needs.{needs}
 use Rattle.book.proofs.save.put_run.Statement.{statement}

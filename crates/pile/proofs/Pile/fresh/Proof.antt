@@ -5,8 +5,8 @@ use Rattle.pile.proofs.Pile.fresh.Statement.{statement}
 use Rattle.pile.proofs.Pile.fresh.Tie as tie
 use mathlib.Core.Path.{sym, _∙_}
 use Rattle.rules.specs.Record.{freshAnswer, freshRecord}
-use Rattle.rules.proofs.Tests.{when-accepted}
-use Rattle.rules.proofs.Refused.{fresh-refused}
+use Rattle.rules.proofs.Loops.Refusals.{when-accepted}
+use Rattle.rules.proofs.File.Refused.{fresh-refused}
 
 check-requires : tie.Need-check-requires
 check-requires c κs = search needs

@@ -11,7 +11,8 @@ use lib.ListN.{length, getD, length-set}
 use lib.Dec.{eqb}
 use borrow.Author.Tests.{lt-leb, le-leb, eqb-true, not-false}
 use Rattle.rules.specs.Loops.{sum, every}
-use Rattle.rules.proofs.Tests.{holds, fails, and-left-fails, and-right-fails, and-both, every-at, every-next, every-stops}
+use Rattle.rules.proofs.Loops.Logic.{holds, fails, and-left-fails, and-right-fails, and-both}
+use Rattle.rules.proofs.Loops.Every.{every-at, every-next, every-stops}
 use Rattle.pile.specs.Account.{shareOf, earnedBy, spentBy, givenBy, rowRight, Accounted}
 use Rattle.pile.proofs.Arrays.{sum-past, set-next, set-at-most}
 use Rattle.pile.proofs.Credits.{added, credit-step, credit-all}

@@ -11,7 +11,7 @@ use borrow.Author.Tests.{eq-eqb, ne-eqb, lt-ltb, le-ltb}
 use Rattle.rules.specs.Pile.{rights, tallyLimit}
 use Rattle.rules.specs.Acts.{Kind, side, tally}
 use Rattle.rules.specs.Record.{recordView, recordAnswer}
-use Rattle.rules.proofs.Tests.{or-first, or-second, or-neither}
+use Rattle.rules.proofs.Loops.Logic.{or-first, or-second, or-neither}
 use Rattle.pile.specs.View.{asRecord, sideOf, Means}
 use Rattle.pile.proofs.ActNumber.{tally-at, own-number, number-11, number-12, number-13, Asked, number-14, number-15, number-0}
 use Rattle.pile.proofs.Audits.{passed, desks-most}

@@ -5,7 +5,7 @@ use Rattle.pile.proofs.acts.enter.Statement.{statement}
 use Rattle.pile.proofs.acts.enter.Tie as tie
 use native.Mathlib.Omega.{arith}
 use mathlib.Core.Path.{sym, _∙_}
-use Rattle.rules.proofs.Refused.{record-act-refused}
+use Rattle.rules.proofs.File.Refused.{record-act-refused}
 use Rattle.pile.proofs.ActNumber.{entered}
 
 act-number-requires : tie.Need-act-number-requires

@@ -8,8 +8,8 @@ use native.Mathlib.Omega.{arith}
 use mathlib.Core.Path.{refl, sym, _∙_}
 use borrow.Author.Tests.{ltb-true, not-false}
 use Rattle.rules.specs.Acts.{give}
-use Rattle.rules.proofs.Tests.{or-left}
-use Rattle.rules.proofs.RecordFacts.{record-range}
+use Rattle.rules.proofs.Loops.Logic.{or-left}
+use Rattle.rules.proofs.Record.Facts.{record-range}
 use Rattle.pile.specs.View.{asRecord, sideOf}
 
 receiver-wrong-requires : tie.Need-receiver-wrong-requires

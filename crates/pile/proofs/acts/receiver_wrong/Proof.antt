@@ -5,7 +5,7 @@ use Rattle.pile.proofs.acts.receiver_wrong.Tie as tie
 use mathlib.Core.Path.{sym, ap}
 use mathlib.Core.Bool.{not}
 use borrow.Author.Tests.{lt-ltb, le-ltb}
-use Rattle.rules.proofs.Tests.{or-first, or-left-fails}
+use Rattle.rules.proofs.Loops.Logic.{or-first, or-left-fails}
 
 returns : tie.Need-returns
 returns c = sym (or-first (ap not (le-ltb _ _ (c .if1 .taken))) _)

@@ -9,7 +9,7 @@ use mathlib.Core.Path.{_≡_, refl, ap₂}
 use mathlib.Core.Bool.{true}
 use Rattle.rules.specs.Loops.{between}
 use Rattle.rules.specs.Layout.{deskLimit}
-use Rattle.rules.proofs.Tests.{holds, fails, and-left, and-right, and-left-fails, and-right-fails}
+use Rattle.rules.proofs.Loops.Logic.{holds, fails, and-left, and-right, and-left-fails, and-right-fails}
 use Rattle.pile.proofs.Verdict.{in-range, refused-2, refused-5, refused-6, refused-7, accepted}
 
 -- The places that the last test comes from: n is in range, each side has its account, and the tests of 5 and of 6 hold.

@@ -5,7 +5,7 @@ use Rattle.pile.proofs.check.desks_right.Tie as tie
 use mathlib.Core.Path.{sym}
 use borrow.Author.Tests.{lt-leb, le-leb}
 use Rattle.rules.specs.Loops.{between}
-use Rattle.rules.proofs.Tests.{and-left-fails, and-left-holds}
+use Rattle.rules.proofs.Loops.Logic.{and-left-fails, and-left-holds}
 
 returns : tie.Need-returns
 unfolding between

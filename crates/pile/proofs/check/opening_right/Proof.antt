@@ -5,7 +5,7 @@ use Rattle.pile.proofs.check.opening_right.Statement.{statement}
 use Rattle.pile.proofs.check.opening_right.Tie as tie
 use mathlib.Core.Path.{sym, _∙_}
 use borrow.Author.Tests.{lt-leb, le-leb, eq-eqb, ne-eqb}
-use Rattle.rules.proofs.Tests.{holds, fails, and-left-fails, and-right-fails, and-left-holds, and-both}
+use Rattle.rules.proofs.Loops.Logic.{holds, fails, and-left-fails, and-right-fails, and-left-holds, and-both}
 
 returns : tie.Need-returns
 returns c = sym (and-left-fails (and-left-fails (lt-leb _ _ (c .if1 .taken)) _) _)

@@ -5,7 +5,7 @@ use Rattle.pile.proofs.check.tallies_right.Statement.{statement}
 use Rattle.pile.proofs.check.tallies_right.Tie as tie
 use mathlib.Core.Path.{sym, _∙_}
 use borrow.Author.Tests.{not-true, not-false}
-use Rattle.rules.proofs.Tests.{and-left-fails, and-right-fails, and-left-holds}
+use Rattle.rules.proofs.Loops.Logic.{and-left-fails, and-right-fails, and-left-holds}
 
 returns : tie.Need-returns
 returns c = sym (and-left-fails (not-true _ (c .if1 .taken)) _)

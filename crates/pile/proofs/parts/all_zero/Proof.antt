@@ -8,7 +8,7 @@ use lib.ListN.{getD}
 use lib.Dec.{eqb}
 use borrow.Author.Tests.{eq-eqb, ne-eqb}
 use Rattle.rules.specs.Loops.{every}
-use Rattle.rules.proofs.Tests.{every-next, every-stops}
+use Rattle.rules.proofs.Loops.Every.{every-next, every-stops}
 use borrow.Author.Needs.{needs}
 use Rattle.pile.proofs.parts.all_zero.Statement.{statement}
 use Rattle.pile.proofs.parts.all_zero.Tie as tie

@@ -15,7 +15,8 @@ use lib.Dec.{leb}
 use borrow.Author.Tests.{le-leb, lt-leb, leb-true, not-true, not-false}
 use Rattle.rules.specs.Loops.{sum, every}
 use Rattle.rules.specs.Pile.{tallyLimit}
-use Rattle.rules.proofs.Tests.{every-at, every-stops, and-left-holds, and-left-fails}
+use Rattle.rules.proofs.Loops.Logic.{and-left-holds, and-left-fails}
+use Rattle.rules.proofs.Loops.Every.{every-at, every-stops}
 use Rattle.pile.proofs.Arrays.{sum-next, every-more, set-next}
 
 abbrev Inv-loop : tie.InvT-loop

@@ -1,0 +1,39 @@
+-- Different cells of a book stand apart: a cell lies within its row, a row within its body, a body within the book.
+-- Assumes nothing.
+use Prim.Native.Nat.{ℕ, suc, _+_, _*_, _≤_, _<_}
+use native.Mathlib.Nat.{mul-le-mul-right}
+use native.Mathlib.Decide.{ℕ-discrete}
+use native.Mathlib.Omega.{arith}
+use mathlib.Core.Path.{ap}
+use mathlib.Core.Logic.{_⊎_, inl, inr, ⊎-elim, by-cases, _≢_}
+use Rattle.rules.specs.Layout.{rowLength, bodyLength, bodyAt, bookLength, cellAt}
+use Rattle.rules.proofs.Loops.Ranges.{Apart, below-or-above, pieces-apart}
+
+-- a cell of n desks lies within its body
+pub cell-fits : (n r c : ℕ) → r < suc n → c < 2 + (n + n) → cellAt n r c + 4 ≤ bodyLength n
+unfolding cellAt rowLength bodyLength
+cell-fits n r c r<n c<w = omega (arith, mul-le-mul-right (8 * (n + 1)) r<n)
+
+-- and body k within its book
+pub body-within : (n p k : ℕ) → k < p → bodyAt n p k + bodyLength n ≤ bookLength n p
+unfolding bodyAt bookLength
+body-within n p k l = omega (arith, mul-le-mul-right (bodyLength n) l)
+
+-- cells of different bodies, and different cells of one body
+pub bodies-apart : (n p k k′ r r′ c c′ : ℕ) → r < suc n → r′ < suc n → c < 2 + (n + n) → c′ < 2 + (n + n) → k ≢ k′
+    → Apart (bodyAt n p k + cellAt n r c) 4 (bodyAt n p k′ + cellAt n r′ c′) 4
+unfolding bodyAt
+bodies-apart n p k k′ r r′ c c′ r<n r′<n c<w c′<w h =
+    ⊎-elim (λ l. inl (omega arith)) (λ l. inr (omega arith))
+    (pieces-apart (bodyLength n) k k′ (cellAt n r c) (cellAt n r′ c′) 4 h (cell-fits n r c r<n c<w) (cell-fits n r′ c′ r′<n c′<w))
+
+pub cells-apart : (n at r r′ c c′ : ℕ) → c < 2 + (n + n) → c′ < 2 + (n + n) → (r ≢ r′) ⊎ (c ≢ c′)
+    → Apart (at + cellAt n r c) 4 (at + cellAt n r′ c′) 4
+unfolding cellAt rowLength
+cells-apart n at r r′ c c′ c<w c′<w h =
+    by-cases (ℕ-discrete r r′)
+    (λ e. ⊎-elim (λ l. inl (omega (arith, ap (λ (r : ℕ). r * (8 * (n + 1))) e)))
+    (λ l. inr (omega (arith, ap (λ (r : ℕ). r * (8 * (n + 1))) e)))
+    (below-or-above c c′ (⊎-elim (λ d. absurd (d e)) (λ d. d) h)))
+    (λ d. ⊎-elim (λ l. inl (omega arith)) (λ l. inr (omega arith))
+    (pieces-apart (8 * (n + 1)) r r′ (c * 4) (c′ * 4) 4 d (omega arith) (omega arith)))

@@ -1,0 +1,80 @@
+-- A book written from lawful piles under rising numbers is readable, and its bytes are bytes.
+-- Assumes nothing.
+use Prim.Native.Nat.{ℕ, zero, suc, _≤_, _<_}
+use native.Mathlib.Omega.{arith}
+use mathlib.Core.Path.{_≡_, refl, _∙_}
+use mathlib.Core.Bool.{true}
+use mathlib.Core.List.{[], _∷_, _++_}
+use lib.Dec.{lit<}
+use Rattle.rules.specs.Loops.{flat}
+use Rattle.rules.specs.Numbers.{bytes, encode}
+use Rattle.rules.specs.Pile.{Pile}
+use Rattle.rules.specs.Layout.{deskLimit, pileLimit, bodyAt, pileNumber, pileOf, bodyBytes, bodyRow, entryBytes, bookBytes}
+use Rattle.rules.specs.Opening.{rising}
+use Rattle.rules.specs.Book.{bookAnswer}
+use Rattle.rules.proofs.Bytes.Numbers.{Octets, octets-bytes, octets-append, octets-flat, octets-encode}
+use Rattle.rules.proofs.Pile.Facts.{PileFacts, passes}
+use Rattle.rules.proofs.Pile.Agree.{Agree, agree-sym, facts-cong}
+use Rattle.rules.proofs.File.Body.{lawful-fits}
+use Rattle.rules.proofs.File.Written.{length-book, read-number, read-position, read-pile}
+use Rattle.rules.proofs.File.Readable.{BookFacts, book-passes, lengths}
+use Rattle.rules.proofs.File.Rising.{rising-cong, number-most}
+
+-- the numbers of desks and piles are in range, and the pile numbers rise
+pub record Frame (n p : ℕ) (numbers : ℕ → ℕ) : Type 0 where
+  pub desks-least : 1 ≤ n
+  pub desks-most : n ≤ deskLimit
+  pub piles-least : 1 ≤ p
+  pub piles-most : p ≤ pileLimit
+  pub rises : rising p numbers ≡ true
+
+abbrev pub Lawful : ℕ → ℕ → (ℕ → Pile) → Type 0
+Lawful n p P = (k : ℕ) → k < p → PileFacts n (P k)
+
+module _ (n p : ℕ) (numbers : ℕ → ℕ) (frame : Frame n p numbers) (pile : ℕ → Pile) where
+  pub written-octets : Octets (bookBytes n p numbers pile)
+  unfolding bookBytes bodyBytes entryBytes
+  written-octets =
+      let contents = flat p (entryBytes n p numbers) in
+      let bodies = flat p (λ k. bodyBytes n (pile k)) in
+      octets-append (1 ∷ n ∷ p ∷ 0 ∷ []) (contents ++ bodies) head
+      (octets-append contents bodies
+      (octets-flat p (entryBytes n p numbers)
+      (λ k. octets-append (bytes 2 (numbers k)) (bytes 4 (bodyAt n p k)) (octets-bytes 2 (numbers k)) (octets-bytes 4 (bodyAt n p k))))
+      (octets-flat p (λ k. bodyBytes n (pile k))
+      (λ k. octets-flat (suc n) (λ r. encode (bodyRow n (pile k) r)) (λ r. octets-encode (bodyRow n (pile k) r)))))
+    where
+      head : Octets (1 ∷ n ∷ p ∷ 0 ∷ [])
+      head zero = lit< tt
+      head (suc zero) = omega (arith, frame .desks-most)
+      head (suc (suc zero)) = omega (arith, frame .piles-most)
+      head (suc (suc (suc zero))) = lit< tt
+      head (suc (suc (suc (suc k)))) = lit< tt
+
+  pub written-number : (k : ℕ) → k < p → pileNumber (bookBytes n p numbers pile) k ≡ numbers k
+  written-number k l = read-number n p numbers pile k l (number-most p numbers (frame .rises) k l)
+
+  module _ (lawful : (k : ℕ) → k < p → PileFacts n (pile k)) where
+    pub written-pile : (k : ℕ) → k < p → Agree n (pileOf (bookBytes n p numbers pile) k) (pile k)
+    written-pile k l = read-pile n p numbers pile k l (lawful-fits n (pile k) (lawful k l))
+
+    pub written-facts : BookFacts (bookBytes n p numbers pile)
+    unfolding bookBytes
+    written-facts =
+        let size = lengths n p (frame .desks-least) (frame .desks-most) (frame .piles-least) (frame .piles-most) in
+        record {
+          long = omega (arith, length-book n p numbers pile, size .0);
+          version = refl;
+          fourth = refl;
+          desks-least = frame .desks-least;
+          desks-most = frame .desks-most;
+          piles-least = frame .piles-least;
+          piles-most = frame .piles-most;
+          sized = length-book n p numbers pile;
+          rises = rising-cong p _ numbers written-number ∙ frame .rises;
+          placed = λ k l. read-position n p numbers pile k l (omega (arith, size .1));
+          bodies = λ k l. passes n _ (facts-cong n (pile k) _ (agree-sym (written-pile k l)) (lawful k l));
+        }
+
+    pub written-readable : bookAnswer (bookBytes n p numbers pile) ≡ 0
+    written-readable = book-passes _ written-facts

@@ -1,0 +1,91 @@
+-- A book is readable exactly where these plain facts hold of its bytes; so it is what writing its parts gives, and has 42 to 20,932 bytes.
+-- Assumes nothing.
+use Prim.Native.Nat.{ℕ, _+_, _≤_, _<_}
+use native.Mathlib.Nat.{mul-le-mul}
+use native.Mathlib.Omega.{arith}
+use mathlib.Core.Path.{_≡_, refl}
+use mathlib.Core.Bool.{true}
+use mathlib.Core.List.{List}
+use lib.ListN.{length, getD}
+use borrow.Author.Tests.{leb-true, ltb-false, eqb-true, le-leb, le-ltb, eq-eqb}
+use Rattle.rules.specs.Loops.{between}
+use Rattle.rules.specs.Refusals.{_when_, _orElse_}
+use Rattle.rules.specs.Pile.{pileAnswer}
+use Rattle.rules.specs.Layout.{deskLimit, pileLimit, bodyLength, bodyAt, bookLength, desks, piles, pileNumber, position, pileOf, bookBytes}
+use Rattle.rules.specs.Opening.{rising}
+use Rattle.rules.specs.Book.{headRight, contentsRight, bookAnswer}
+use Rattle.rules.proofs.Loops.Logic.{and-left, and-right, and-both}
+use Rattle.rules.proofs.Loops.Every.{every-at, every-all}
+use Rattle.rules.proofs.Loops.Refusals.{when-done, when-not-done, orElse-first, orElse-rest, first-at, first-none}
+use Rattle.rules.proofs.Bytes.Numbers.{Octets}
+use Rattle.rules.proofs.Pile.Agree.{agree-refl}
+use Rattle.rules.proofs.File.Written.{write-book}
+
+pub record BookFacts (b : List ℕ) : Type 0 where
+  pub long : 4 ≤ length b
+  pub version : getD b 0 0 ≡ 1
+  pub fourth : getD b 3 0 ≡ 0
+  pub desks-least : 1 ≤ desks b
+  pub desks-most : desks b ≤ deskLimit
+  pub piles-least : 1 ≤ piles b
+  pub piles-most : piles b ≤ pileLimit
+  pub sized : length b ≡ bookLength (desks b) (piles b)
+  pub rises : rising (piles b) (pileNumber b) ≡ true
+  pub placed : (k : ℕ) → k < piles b → position b k ≡ bodyAt (desks b) (piles b) k
+  pub bodies : (k : ℕ) → k < piles b → pileAnswer (desks b) (pileOf b k) ≡ 0
+
+pub book-facts : (b : List ℕ) → bookAnswer b ≡ 0 → BookFacts b
+unfolding bookAnswer headRight contentsRight between
+book-facts b e =
+    let head : headRight b ≡ true = when-not-done _ _ (orElse-first _ _ (orElse-rest _ _ e)) in
+    let rest = orElse-rest _ _ (orElse-rest _ _ e) in
+    let contents : contentsRight b ≡ true = when-not-done _ _ (orElse-first _ _ (orElse-rest _ _ rest)) in
+    let ranges = and-right _ _ head in
+    record {
+      long = ltb-false _ _ (when-done _ _ (orElse-first _ _ e));
+      version = eqb-true _ _ (and-left _ _ head);
+      fourth = eqb-true _ _ (and-right _ _ (and-right _ _ ranges));
+      desks-least = leb-true _ _ (and-left _ _ (and-left _ _ ranges));
+      desks-most = leb-true _ _ (and-right _ _ (and-left _ _ ranges));
+      piles-least = leb-true _ _ (and-left _ _ (and-left _ _ (and-right _ _ ranges)));
+      piles-most = leb-true _ _ (and-right _ _ (and-left _ _ (and-right _ _ ranges)));
+      sized = eqb-true _ _ (when-not-done _ _ (orElse-first _ _ rest));
+      rises = and-left _ _ contents;
+      placed = λ k l. eqb-true _ _ (every-at (piles b) _ (and-right _ _ contents) k l);
+      bodies = first-at (piles b) _ (orElse-rest _ _ (orElse-rest _ _ rest));
+    }
+
+pub book-passes : (b : List ℕ) → BookFacts b → bookAnswer b ≡ 0
+unfolding bookAnswer headRight contentsRight between _when_ _orElse_
+book-passes b f =
+    rw (
+      le-ltb _ _ (f .long),
+      and-both (eq-eqb _ _ (f .version))
+          (and-both (and-both (le-leb _ _ (f .desks-least)) (le-leb _ _ (f .desks-most)))
+          (and-both (and-both (le-leb _ _ (f .piles-least)) (le-leb _ _ (f .piles-most))) (eq-eqb _ _ (f .fourth)))),
+      eq-eqb _ _ (f .sized),
+      and-both (f .rises) (every-all (piles b) (λ k l. eq-eqb _ _ (f .placed k l))),
+      first-none (piles b) (f .bodies),
+    )
+
+-- a readable book is what writing its parts gives
+pub rewritten : (b : List ℕ) → Octets b → bookAnswer b ≡ 0 → bookBytes (desks b) (piles b) (pileNumber b) (pileOf b) ≡ b
+unfolding pileOf
+rewritten b o e =
+    let f = book-facts b e in
+    write-book (desks b) (piles b) (pileNumber b) (pileOf b) b o (f .sized) (f .version) refl refl (f .fourth) (λ k l. refl)
+    (f .placed) (λ k l. agree-refl)
+
+-- lengths from 42 to 20,932
+pub lengths : (n p : ℕ) → 1 ≤ n → n ≤ deskLimit → 1 ≤ p → p ≤ pileLimit → (42 ≤ bookLength n p) × (bookLength n p ≤ 20932)
+unfolding bookLength bodyAt bodyLength
+lengths n p 1≤n n≤8 1≤p p≤32 =
+    let low : 2 ≤ n + 1 = omega arith in
+    let high : n + 1 ≤ 9 = omega arith in
+    (omega (arith, mul-le-mul 1≤p (mul-le-mul low low)), omega (arith, mul-le-mul p≤32 (mul-le-mul high high)))
+
+pub book-lengths : (b : List ℕ) → bookAnswer b ≡ 0 → (42 ≤ length b) × (length b ≤ 20932)
+book-lengths b e =
+    let f = book-facts b e in
+    let l = lengths (desks b) (piles b) (f .desks-least) (f .desks-most) (f .piles-least) (f .piles-most) in
+    (omega (arith, f .sized, l .0), omega (arith, f .sized, l .1))

@@ -1,0 +1,7 @@
+-- The record in memory against pile and file, up to fetching and storing as inverses.
+pub mod Facts
+pub mod Unused
+pub mod RecordOf
+pub mod Fresh
+pub mod OfBody
+pub mod RoundTrip
