@@ -6,7 +6,7 @@ use native.Mathlib.Omega.{arith}
 use mathlib.Core.Path.{_≡_, ap, sym}
 use mathlib.Core.List.{List}
 use lib.ListN.{getD}
-use Rattle.rules.specs.Layout.{bodyLength, bodyAt, bookLength, deskLimit, pileLimit}
+use Rattle.rules.specs.Layout.{bodyLength, bodyAt, bookLength, deskLimit, pileLimit, frontLength}
 use Rattle.rules.specs.Opening.{given}
 pub use Rattle.rules.proofs.File.Cells.{body-within}
 
@@ -27,7 +27,7 @@ unfolding bodyAt
 body-next n p k = omega arith
 
 -- the contents lies within the book
-pub contents-within : (n p : ℕ) → 4 + p * 6 ≤ bookLength n p
+pub contents-within : (n p : ℕ) → frontLength p ≤ bookLength n p
 unfolding bodyAt bookLength
 contents-within n p = omega arith
 

@@ -1,6 +1,6 @@
 pub mod Lengths
 pub mod Loaded
 pub mod Saved
-pub mod Numbers
+pub mod BookLines
 pub mod Replies
 pub mod Opened

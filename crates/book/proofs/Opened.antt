@@ -12,7 +12,7 @@ use Rattle.rules.specs.Loops.{flat}
 use Rattle.rules.specs.Refusals.{_when_, first}
 use Rattle.rules.specs.Pile.{openingLawful}
 use Rattle.rules.specs.Numbers.{bytes, afterPut}
-use Rattle.rules.specs.Layout.{bodyLength, bodyAt, bookLength, bodyBytes, entryBytes, bookBytes}
+use Rattle.rules.specs.Layout.{bodyLength, bodyAt, bookLength, bodyBytes, entryBytes, bookBytes, entryAt, positionAt}
 use Rattle.rules.specs.Record.{Record, recordView, recordOf}
 use Rattle.rules.specs.Opening.{given, givenPile, openingAnswer, opened}
 use Rattle.rules.proofs.Loops.Refusals.{when-done, when-not-done, orElse-first, orElse-rest}
@@ -35,7 +35,7 @@ module _ (n p : ℕ) (l : List ℕ) where
   -- an entry is its number and its position, behind the entries before it
   pub put-entry : (b : List ℕ) (k : ℕ) {x y : ℕ} {before between after : List ℕ} → 10 + k * 6 ≤ length b
       → before ≡ sets b 4 (flat k entry) → x ≡ given n l k 0 → y ≡ bodyAt n p k
-      → between ≡ afterPut 2 before (4 + k * 6) x → after ≡ afterPut 4 between (6 + k * 6) y
+      → between ≡ afterPut 2 before (entryAt k) x → after ≡ afterPut 4 between (positionAt k) y
       → after ≡ sets b 4 (flat (k + 1) entry)
   unfolding entryBytes
   put-entry b k fits entries is at first second =
@@ -48,11 +48,11 @@ module _ (n p : ℕ) (l : List ℕ) where
         entries,
         is,
         at,
-        put-fits 2 e (4 + k * 6) (given n l k 0) (omega (arith, long)),
-        put-fits 4 (sets e (4 + k * 6) v) (6 + k * 6) (bodyAt n p k) (omega (arith, long, length-sets e (4 + k * 6) v)),
+        put-fits 2 e (entryAt k) (given n l k 0) (omega (arith, long)),
+        put-fits 4 (sets e (entryAt k) v) (positionAt k) (bodyAt n p k) (omega (arith, long, length-sets e (entryAt k) v)),
       )
-      (ap (λ (j : ℕ). sets (sets e (4 + k * 6) v) j (bytes 4 (bodyAt n p k))) (omega (arith, length-bytes 2 (given n l k 0)))
-      ∙ sym (sets-append e (4 + k * 6) v (bytes 4 (bodyAt n p k)))
+      (ap (λ (j : ℕ). sets (sets e (entryAt k) v) j (bytes 4 (bodyAt n p k))) (omega (arith, length-bytes 2 (given n l k 0)))
+      ∙ sym (sets-append e (entryAt k) v (bytes 4 (bodyAt n p k)))
       ∙ sets-piece b 4 6 k entry (length-entry n p _ (givenPile n l)))
 
   -- the record of a given pile makes its body, behind the bodies before it

@@ -12,7 +12,7 @@ use borrow.Author.Tests.{le-ltb}
 use Rattle.rules.specs.Loops.{flat, list}
 use Rattle.rules.specs.Numbers.{bytes, encode, putAnswer, afterPut}
 use Rattle.rules.specs.Layout.{rowLength, bodyLength, rowOf, bodyRow, bodyBytes}
-use Rattle.rules.specs.Record.{Record, recordCell, recordView}
+use Rattle.rules.specs.Record.{Record, recordCell, recordView, rowPlaces}
 use Rattle.rules.proofs.Loops.Refusals.{not-met, when-accepted}
 use Rattle.rules.proofs.Loops.Pieces.{length-flat, flat-cong, length-list, list-add, list-cong}
 use Rattle.rules.proofs.Bytes.Numbers.{encode-append, length-encode}
@@ -59,7 +59,7 @@ row-room n i l = omega (arith, mul-le-mul-right (8 * (n + 1)) l, suc-mul i (8 * 
 
 -- the two runs of row i of the tallies, as far as n desks go
 abbrev pub tallyRow : ℕ → List ℕ → ℕ → List ℕ
-tallyRow n tallies i = run tallies (i * 18) (2 + n) ++ run tallies (i * 18 + 10) n
+tallyRow n tallies i = run tallies (i * rowPlaces) (2 + n) ++ run tallies (i * rowPlaces + 10) n
 
 length-tally-row : (n : ℕ) (tallies : List ℕ) (i : ℕ) → length (encode (tallyRow n tallies i)) ≡ 8 * (n + 1)
 length-tally-row n tallies i = length-encode (tallyRow n tallies i) ∙ simp (length-append, length-list) (omega arith)
@@ -67,11 +67,11 @@ length-tally-row n tallies i = length-encode (tallyRow n tallies i) ∙ simp (le
 -- what they leave, behind the rows before it
 pub put-tallies : (b : List ℕ) (at n : ℕ) (tallies : List ℕ) (i : ℕ) {before between after : List ℕ}
     → before ≡ sets b at (flat i (λ k. encode (tallyRow n tallies k)))
-    → between ≡ sets before (at + i * (8 * (n + 1))) (encode (run tallies (i * 18) (2 + n)))
-    → after ≡ sets between (at + i * (8 * (n + 1)) + 8 + 4 * n) (encode (run tallies (i * 18 + 10) n))
+    → between ≡ sets before (at + i * (8 * (n + 1))) (encode (run tallies (i * rowPlaces) (2 + n)))
+    → after ≡ sets between (at + i * (8 * (n + 1)) + 8 + 4 * n) (encode (run tallies (i * rowPlaces + 10) n))
     → after ≡ sets b at (flat (i + 1) (λ k. encode (tallyRow n tallies k)))
 put-tallies b at n tallies i {before} rows first second =
-    rw (second, first) (sets-goes before _ _ _ _ (omega (arith, length-run tallies (i * 18) (2 + n)))
+    rw (second, first) (sets-goes before _ _ _ _ (omega (arith, length-run tallies (i * rowPlaces) (2 + n)))
     ∙ rw rows (sets-piece b at (8 * (n + 1)) i (λ k. encode (tallyRow n tallies k)) (length-tally-row n tallies)))
 
 -- the rows of the record that the runs make up

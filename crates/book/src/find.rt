@@ -2,7 +2,7 @@
 use crate::head::place_of;
 use crate::layout::body_at;
 use crate::load::load;
-use crate::readable::book_number;
+use crate::readable::book_answer;
 use pile::Pile;
 ghost use mathlib.Core.Path.{_≡_};
 ghost use Prim.Native.Nat.{_<_};
@@ -12,26 +12,26 @@ ghost use Rattle.rules.specs.Record.{recordOf};
 ghost use Rattle.pile.specs.View.{asRecord};
 
 // A refusal's number or 0, and where it is 0 the pile's place in the contents.
-pub struct Found {
-    pub number: u8,
+pub(crate) struct Found {
+    pub answer: u8,
     pub place: usize,
 }
 
 // The book's own number, 11 where it does not have the desk, 10 where it does not have the pile. Every book has desk 0.
 pub(crate) fn find(book: &[u8], desk: u8, number: u16) -> Found
-    ensures number { λ r. ⌜ r .number ≡ deskAnswer desk (now (book .entry)) number ⌝ }
-    ensures place { λ r. ⌜ (r .number ≡ 0 → r .place ≡ place (now (book .entry)) number) ⌝ }
+    ensures answer { λ r. ⌜ r .answer ≡ deskAnswer desk (now (book .entry)) number ⌝ }
+    ensures place { λ r. ⌜ (r .answer ≡ 0 → r .place ≡ place (now (book .entry)) number) ⌝ }
 {
-    let own = book_number(book);
+    let own = book_answer(book);
     if own != 0 {
         return Found {
-            number: own,
+            answer: own,
             place: 0,
         };
     }
     if book[1] <= desk {
         return Found {
-            number: 11,
+            answer: 11,
             place: 0,
         };
     }
@@ -39,12 +39,12 @@ pub(crate) fn find(book: &[u8], desk: u8, number: u16) -> Found
     let k = place_of(book, p, number);
     if k == p {
         return Found {
-            number: 10,
+            answer: 10,
             place: 0,
         };
     }
     Found {
-        number: 0,
+        answer: 0,
         place: k,
     }
 }

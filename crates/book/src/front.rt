@@ -1,6 +1,9 @@
 // What an accepted opening writes: the head, the contents, the bodies.
 use crate::given::given_pile;
 use crate::head::VERSION;
+use crate::layout::ENTRY;
+use crate::layout::HEAD;
+use crate::layout::POSITION;
 use crate::layout::body_at;
 use crate::layout::body_length;
 use crate::save::save;
@@ -15,25 +18,25 @@ ghost use lib.Seq.{sets};
 ghost use Rattle.rules.specs.Loops.{flat};
 ghost use Rattle.rules.specs.Refusals.{_when_, first};
 ghost use Rattle.rules.specs.Pile.{openingLawful};
-ghost use Rattle.rules.specs.Layout.{bodyAt, bookLength, bodyBytes, entryBytes};
+ghost use Rattle.rules.specs.Layout.{bodyAt, bookLength, bodyBytes, entryBytes, frontLength};
 ghost use Rattle.rules.specs.Opening.{rising, given, givenPile};
 
 // The contents of p piles, from position 4 on.
 pub(crate) fn put_contents(out: &mut [u8], n: usize, p: usize, numbers: &[u32])
-    requires { ⌜ (n ≤ 8) × (p ≤ 32) × (p * (3 + 2 * n) ≤ length (now numbers)) × (4 + p * 6 ≤ length (now out)) × (rising p (λ k. given n (now numbers) k 0) ≡ true) ⌝ }
+    requires { ⌜ (n ≤ 8) × (p ≤ 32) × (p * (3 + 2 * n) ≤ length (now numbers)) × (frontLength p ≤ length (now out)) × (rising p (λ k. given n (now numbers) k 0) ≡ true) ⌝ }
     ensures { λ _. ⌜ now (out .exit) ≡ sets (now (out .entry)) 4 (flat p (entryBytes n p (λ k. given n (now (numbers .entry)) k 0))) ⌝ }
 {
     let mut k = 0;
     while k < p {
-        put2(out, 4 + k * 6, numbers[k * (3 + 2 * n)] as u16);
-        put4(out, 6 + k * 6, body_at(n, p, k) as u32);
+        put2(out, HEAD + k * ENTRY, numbers[k * (3 + 2 * n)] as u16);
+        put4(out, POSITION + k * ENTRY, body_at(n, p, k) as u32);
         k += 1;
     }
 }
 
 // The head, and then the contents.
 pub(crate) fn put_front(out: &mut [u8], n: u8, p: u8, numbers: &[u32])
-    requires { ⌜ (n ≤ 8) × (p ≤ 32) × (p * (3 + 2 * n) ≤ length (now numbers)) × (4 + p * 6 ≤ length (now out)) × (rising p (λ k. given n (now numbers) k 0) ≡ true) ⌝ }
+    requires { ⌜ (n ≤ 8) × (p ≤ 32) × (p * (3 + 2 * n) ≤ length (now numbers)) × (frontLength p ≤ length (now out)) × (rising p (λ k. given n (now numbers) k 0) ≡ true) ⌝ }
     ensures { λ _. ⌜ now (out .exit) ≡ sets (now (out .entry)) 0 ((1 ∷ n ∷ p ∷ 0 ∷ []) ++ flat p (entryBytes n p (λ k. given n (now (numbers .entry)) k 0))) ⌝ }
 {
     out[0] = VERSION;
@@ -54,7 +57,7 @@ pub(crate) fn put_bodies(out: &mut [u8], n: u8, p: usize, numbers: &[u32])
     while k < p {
         let given = given_pile(numbers, n, k);
         let pile = given.pile;
-        save(out, at, n as usize, pile);
+        save(out, n as usize, at, pile);
         at += size;
         k += 1;
     }

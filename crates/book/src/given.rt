@@ -1,6 +1,7 @@
 // A pile of the list that a book is opened from, as a record. The list has for each pile its number, floor, top and shares.
-use pile::Entered;
+use pile::Outcome;
 use pile::Pile;
+use pile::SHARES;
 ghost use mathlib.Core.Path.{_≡_};
 ghost use mathlib.Core.Bool.{not};
 ghost use Prim.Native.Nat.{_+_, _*_, _≤_, _<_};
@@ -26,22 +27,22 @@ pub(crate) fn copy_run(out: &mut [u32], to: usize, numbers: &[u32], from: usize,
 }
 
 // The shares of pile k, as a record has them.
-pub(crate) fn given_shares(numbers: &[u32], n: usize, k: usize) -> [u32; 16]
+pub(crate) fn given_shares(numbers: &[u32], n: usize, k: usize) -> [u32; SHARES]
     requires { ⌜ (n ≤ 8) × (k < 32) × ((k + 1) * (3 + 2 * n) ≤ length (now numbers)) ⌝ }
     ensures { λ r. ⌜ r ≡ recordOf n (givenPile n (now (numbers .entry)) k) .shares ⌝ }
 {
     let from = k * (3 + 2 * n) + 3;
-    let mut shares = [0u32; 16];
+    let mut shares = [0u32; SHARES];
     copy_run(&mut shares, 0, numbers, from, n);
     copy_run(&mut shares, 8, numbers, from + n, n);
     shares
 }
 
 // Pile k as a fresh record, or 5.
-pub(crate) fn given_pile(numbers: &[u32], n: u8, k: usize) -> Entered
+pub(crate) fn given_pile(numbers: &[u32], n: u8, k: usize) -> Outcome
     requires { ⌜ (1 ≤ n) × (n ≤ 8) × (k < 32) × ((k + 1) * (3 + 2 * n) ≤ length (now numbers)) ⌝ }
-    ensures number { λ r. ⌜ r .number ≡ 5 when not (openingLawful n (givenPile n (now (numbers .entry)) k)) ⌝ }
-    ensures pile { λ r. ⌜ (r .number ≡ 0 → asRecord (r .pile) ≡ recordOf n (givenPile n (now (numbers .entry)) k)) ⌝ }
+    ensures answer { λ r. ⌜ r .answer ≡ 5 when not (openingLawful n (givenPile n (now (numbers .entry)) k)) ⌝ }
+    ensures pile { λ r. ⌜ (r .answer ≡ 0 → asRecord (r .pile) ≡ recordOf n (givenPile n (now (numbers .entry)) k)) ⌝ }
 {
     let shares = given_shares(numbers, n as usize, k);
     let at = k * (3 + 2 * (n as usize));

@@ -1,4 +1,7 @@
 // The head and the contents of a book.
+use crate::layout::ENTRY;
+use crate::layout::HEAD;
+use crate::layout::POSITION;
 use crate::layout::body_at;
 use number::get2;
 use number::get4;
@@ -8,9 +11,9 @@ ghost use Prim.Native.Nat.{_+_, _*_, _≤_};
 ghost use lib.ListN.{length};
 ghost use lib.Dec.{eqb};
 ghost use Rattle.rules.specs.Loops.{_and_, every, index};
-ghost use Rattle.rules.specs.Layout.{bodyAt, pileNumber, position};
+ghost use Rattle.rules.specs.Layout.{bodyAt, pileNumber, position, frontLength};
 ghost use Rattle.rules.specs.Opening.{rising};
-ghost use Rattle.rules.specs.Book.{headRight};
+ghost use Rattle.rules.specs.Book.{headSound};
 
 // A book's version, and the most piles of one.
 pub(crate) const VERSION: u8 = 1;
@@ -18,9 +21,9 @@ pub(crate) const VERSION: u8 = 1;
 pub(crate) const PILES: u8 = 32;
 
 // Version 1, 1 to 8 desks, 1 to 32 piles, 0.
-pub(crate) fn head_right(book: &[u8]) -> bool
+pub(crate) fn head_sound(book: &[u8]) -> bool
     requires { ⌜ 4 ≤ length (now book) ⌝ }
-    ensures { λ r. ⌜ r ≡ headRight (now (book .entry)) ⌝ }
+    ensures { λ r. ⌜ r ≡ headSound (now (book .entry)) ⌝ }
 {
     if book[0] != VERSION {
         return false;
@@ -41,18 +44,18 @@ pub(crate) fn head_right(book: &[u8]) -> bool
 }
 
 // Pile numbers rise from above 0, and each position is where its body starts.
-pub(crate) fn contents_right(book: &[u8], n: usize, p: usize) -> bool
-    requires { ⌜ (n ≤ 8) × (p ≤ 32) × (4 + p * 6 ≤ length (now book)) ⌝ }
+pub(crate) fn contents_sound(book: &[u8], n: usize, p: usize) -> bool
+    requires { ⌜ (n ≤ 8) × (p ≤ 32) × (frontLength p ≤ length (now book)) ⌝ }
     ensures { λ r. ⌜ r ≡ rising p (pileNumber (now (book .entry))) and every p (λ k. eqb (position (now (book .entry)) k) (bodyAt n p k)) ⌝ }
 {
     let mut last: u16 = 0;
     let mut k = 0;
     while k < p {
-        let number = get2(book, 4 + k * 6);
+        let number = get2(book, HEAD + k * ENTRY);
         if number <= last {
             return false;
         }
-        if get4(book, 6 + k * 6) as usize != body_at(n, p, k) {
+        if get4(book, POSITION + k * ENTRY) as usize != body_at(n, p, k) {
             return false;
         }
         last = number;
@@ -63,12 +66,12 @@ pub(crate) fn contents_right(book: &[u8], n: usize, p: usize) -> bool
 
 // Where a pile number stands in the contents; p where it is absent.
 pub(crate) fn place_of(book: &[u8], p: usize, number: u16) -> usize
-    requires { ⌜ (p ≤ 32) × (4 + p * 6 ≤ length (now book)) ⌝ }
+    requires { ⌜ (p ≤ 32) × (frontLength p ≤ length (now book)) ⌝ }
     ensures { λ r. ⌜ r ≡ index p (λ k. eqb (pileNumber (now (book .entry)) k) number) ⌝ }
 {
     let mut k = 0;
     while k < p {
-        if get2(book, 4 + k * 6) == number {
+        if get2(book, HEAD + k * ENTRY) == number {
             return k;
         }
         k += 1;

@@ -1,7 +1,22 @@
 // Where the parts of a book stand.
 ghost use mathlib.Core.Path.{_≡_};
 ghost use Prim.Native.Nat.{_≤_};
-ghost use Rattle.rules.specs.Layout.{bodyLength, bodyAt};
+ghost use Rattle.rules.specs.Layout.{frontLength, bodyLength, bodyAt};
+
+// The head, and the contents' entries behind it: a pile number, and a position 2 bytes on.
+pub(crate) const HEAD: usize = 4;
+
+pub(crate) const ENTRY: usize = 6;
+
+pub(crate) const POSITION: usize = HEAD + 2;
+
+// All before the bodies of a book of p piles.
+pub(crate) fn front_length(p: usize) -> usize
+    requires { ⌜ p ≤ 32 ⌝ }
+    ensures { λ r. ⌜ r ≡ frontLength p ⌝ }
+{
+    HEAD + p * ENTRY
+}
 
 pub(crate) fn body_length(n: usize) -> usize
     requires { ⌜ n ≤ 8 ⌝ }
@@ -15,5 +30,5 @@ pub(crate) fn body_at(n: usize, p: usize, k: usize) -> usize
     requires { ⌜ (n ≤ 8) × (p ≤ 32) × (k ≤ 32) ⌝ }
     ensures { λ r. ⌜ r ≡ bodyAt n p k ⌝ }
 {
-    4 + p * 6 + k * body_length(n)
+    front_length(p) + k * body_length(n)
 }

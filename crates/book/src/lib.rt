@@ -15,14 +15,17 @@ use find::find;
 use find::load_body;
 use front::put_bodies;
 use front::put_front;
+use layout::ENTRY;
+use layout::POSITION;
 use layout::body_at;
 use layout::body_length;
 use number::get4;
-use opening::opening_number;
+use opening::opening_answer;
 use pile::Amount;
+use pile::Outcome;
 use pile::Pile;
 use queries::rights_of;
-use readable::book_number;
+use readable::book_answer;
 use same::same_opening;
 use save::save;
 ghost use mathlib.Core.Path.{_≡_};
@@ -34,20 +37,14 @@ ghost use Rattle.rules.specs.Record.{fetched, storeAnswer, afterStore};
 ghost use Rattle.pile.specs.View.{asRecord};
 ghost use Rattle.pile.specs.Replies.{asReply};
 
-// The answer of a fetch: a refusal's number or 0, and the record, all zeros where it is refused.
-pub struct Fetched {
-    pub number: u8,
-    pub pile: Pile,
-}
-
 // Opens a book of n desks and p piles in a lent buffer, from a list of each pile's number, floor, top and shares.
 pub fn open(n: u8, p: u8, numbers: &[u32], out: &mut [u8]) -> u8
-    ensures number { λ r. ⌜ r ≡ openingAnswer n p (now (numbers .entry)) (length (now (out .entry))) ⌝ }
+    ensures answer { λ r. ⌜ r ≡ openingAnswer n p (now (numbers .entry)) (length (now (out .entry))) ⌝ }
     ensures out { λ r. ⌜ now (out .exit) ≡ afterOpening n p (now (numbers .entry)) (now (out .entry)) ⌝ }
 {
-    let number = opening_number(n, p, numbers, out.len());
-    if number != 0 {
-        return number;
+    let answer = opening_answer(n, p, numbers, out.len());
+    if answer != 0 {
+        return answer;
     }
     put_front(out, n, p, numbers);
     put_bodies(out, n, p as usize, numbers);
@@ -58,7 +55,7 @@ pub fn open(n: u8, p: u8, numbers: &[u32], out: &mut [u8]) -> u8
 pub fn check(book: &[u8]) -> u8
     ensures { λ r. ⌜ r ≡ bookAnswer (now (book .entry)) ⌝ }
 {
-    book_number(book)
+    book_answer(book)
 }
 
 // The body found for a pile number, as a part of the book: empty where fetch would refuse.
@@ -66,43 +63,43 @@ pub fn body(book: &[u8], number: u16) -> &[u8]
     ensures { λ r. ⌜ now r ≡ bodyPart (now (book .entry)) number ⌝ }
 {
     let found = find(book, 0, number);
-    let refusal = found.number;
+    let refusal = found.answer;
     if refusal != 0 {
         return &book[0..0];
     }
     let k = found.place;
-    let at = get4(book, 6 + k * 6) as usize;
+    let at = get4(book, POSITION + k * ENTRY) as usize;
     let size = body_length(book[1] as usize);
     &book[at..at + size]
 }
 
 // The pile of a number, as a record.
-pub fn fetch(book: &[u8], number: u16) -> Fetched
-    ensures number { λ r. ⌜ r .number ≡ fetchAnswer (now (book .entry)) number ⌝ }
+pub fn fetch(book: &[u8], number: u16) -> Outcome
+    ensures answer { λ r. ⌜ r .answer ≡ fetchAnswer (now (book .entry)) number ⌝ }
     ensures pile { λ r. ⌜ asRecord (r .pile) ≡ fetched (now (book .entry)) number ⌝ }
 {
     let found = find(book, 0, number);
-    let refusal = found.number;
+    let refusal = found.answer;
     if refusal != 0 {
-        return Fetched {
-            number: refusal,
+        return Outcome {
+            answer: refusal,
             pile: Pile::zero(),
         };
     }
     let k = found.place;
-    Fetched {
-        number: 0,
+    Outcome {
+        answer: 0,
         pile: load_body(book, k),
     }
 }
 
 // Stores a record as the body of its pile, whose n and opening it must have.
 pub fn store(book: &mut [u8], number: u16, pile: Pile) -> u8
-    ensures number { λ r. ⌜ r ≡ storeAnswer (now (book .entry)) number (asRecord pile) ⌝ }
+    ensures answer { λ r. ⌜ r ≡ storeAnswer (now (book .entry)) number (asRecord pile) ⌝ }
     ensures book { λ r. ⌜ now (book .exit) ≡ afterStore (now (book .entry)) number (asRecord pile) ⌝ }
 {
     let found = find(book, 0, number);
-    let refusal = found.number;
+    let refusal = found.answer;
     if refusal != 0 {
         return refusal;
     }
@@ -120,7 +117,7 @@ pub fn store(book: &mut [u8], number: u16, pile: Pile) -> u8
         return 30;
     }
     let p = book[2] as usize;
-    save(book, body_at(n as usize, p, k), n as usize, pile);
+    save(book, n as usize, body_at(n as usize, p, k), pile);
     0
 }
 
@@ -128,7 +125,7 @@ pub fn tonnage(book: &[u8], number: u16) -> Amount
     ensures { λ r. ⌜ asReply r ≡ tonnageReply (now (book .entry)) number ⌝ }
 {
     let found = find(book, 0, number);
-    let refusal = found.number;
+    let refusal = found.answer;
     if refusal != 0 {
         return Amount::Refused(refusal);
     }
@@ -137,14 +134,14 @@ pub fn tonnage(book: &[u8], number: u16) -> Amount
     pile.tonnage()
 }
 
-pub fn draw_rights(book: &[u8], number: u16, desk: u8) -> Amount
+pub fn draw_rights(book: &[u8], desk: u8, number: u16) -> Amount
     ensures { λ r. ⌜ asReply r ≡ rightsReply draw desk (now (book .entry)) number ⌝ }
 {
-    rights_of(book, 0, number, desk)
+    rights_of(book, 0, desk, number)
 }
 
-pub fn tip_rights(book: &[u8], number: u16, desk: u8) -> Amount
+pub fn tip_rights(book: &[u8], desk: u8, number: u16) -> Amount
     ensures { λ r. ⌜ asReply r ≡ rightsReply tip desk (now (book .entry)) number ⌝ }
 {
-    rights_of(book, 1, number, desk)
+    rights_of(book, 1, desk, number)
 }

@@ -1,6 +1,10 @@
 // A body of the book as a pile record. The record has 8 places for each kind of shares and gives, the body n.
 use number::get4;
 use pile::Pile;
+use pile::ROW;
+use pile::SHARES;
+use pile::TALLIES;
+use pile::TIPS;
 ghost use mathlib.Core.Path.{_≡_};
 ghost use Prim.Native.Nat.{_+_, _*_, _≤_};
 ghost use lib.ListN.{length};
@@ -24,28 +28,28 @@ pub(crate) fn fill(out: &mut [u32], to: usize, book: &[u8], from: usize, count: 
 }
 
 // The shares of a body: draw shares at 0, tip shares at 8.
-pub(crate) fn load_shares(book: &[u8], n: usize, at: usize) -> [u32; 16]
+pub(crate) fn load_shares(book: &[u8], n: usize, at: usize) -> [u32; SHARES]
     requires { ⌜ (n ≤ 8) × (at + bodyLength n ≤ length (now book)) ⌝ }
     ensures { λ r. ⌜ r ≡ recordOf n (bodyView n (now (book .entry)) at) .shares ⌝ }
 {
-    let mut shares = [0u32; 16];
+    let mut shares = [0u32; SHARES];
     fill(&mut shares, 0, book, at + 8, n);
     fill(&mut shares, 8, book, at + 8 + 4 * n, n);
     shares
 }
 
 // The tallies of a body, a row of 18 places for each desk: tipped, drawn and the draw gives stand side by side in the body too.
-pub(crate) fn load_tallies(book: &[u8], n: usize, at: usize) -> [u32; 144]
+pub(crate) fn load_tallies(book: &[u8], n: usize, at: usize) -> [u32; TALLIES]
     requires { ⌜ (n ≤ 8) × (at + bodyLength n ≤ length (now book)) ⌝ }
     ensures { λ r. ⌜ r ≡ recordOf n (bodyView n (now (book .entry)) at) .tallies ⌝ }
 {
-    let mut tallies = [0u32; 144];
+    let mut tallies = [0u32; TALLIES];
     let row = 8 * (n + 1);
     let mut i = 0;
     while i < n {
         let from = at + (i + 1) * row;
-        fill(&mut tallies, i * 18, book, from, 2 + n);
-        fill(&mut tallies, i * 18 + 10, book, from + 8 + 4 * n, n);
+        fill(&mut tallies, i * ROW, book, from, 2 + n);
+        fill(&mut tallies, i * ROW + TIPS, book, from + 8 + 4 * n, n);
         i += 1;
     }
     tallies

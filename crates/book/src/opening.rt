@@ -36,16 +36,16 @@ pub(crate) fn numbers_rise(numbers: &[u32], n: usize, p: usize) -> bool
 }
 
 // 5 where the opening of a pile is unlawful.
-pub(crate) fn openings_number(numbers: &[u32], n: u8, p: usize) -> u8
+pub(crate) fn openings_answer(numbers: &[u32], n: u8, p: usize) -> u8
     requires { ⌜ (1 ≤ n) × (n ≤ 8) × (p ≤ 32) × (p * (3 + 2 * n) ≤ length (now numbers)) ⌝ }
     ensures { λ r. ⌜ r ≡ first p (λ k. 5 when not (openingLawful n (givenPile n (now (numbers .entry)) k))) ⌝ }
 {
     let mut k = 0;
     while k < p {
         let given = given_pile(numbers, n, k);
-        let number = given.number;
-        if number != 0 {
-            return number;
+        let answer = given.answer;
+        if answer != 0 {
+            return answer;
         }
         k += 1;
     }
@@ -53,7 +53,7 @@ pub(crate) fn openings_number(numbers: &[u32], n: u8, p: usize) -> u8
 }
 
 // All lines of the table, in their order.
-pub(crate) fn opening_number(n: u8, p: u8, numbers: &[u32], room: usize) -> u8
+pub(crate) fn opening_answer(n: u8, p: u8, numbers: &[u32], room: usize) -> u8
     ensures { λ r. ⌜ r ≡ openingAnswer n p (now (numbers .entry)) room ⌝ }
 {
     if n < 1 {
@@ -76,9 +76,9 @@ pub(crate) fn opening_number(n: u8, p: u8, numbers: &[u32], room: usize) -> u8
     if !numbers_rise(numbers, desks, piles) {
         return 4;
     }
-    let number = openings_number(numbers, n, piles);
-    if number != 0 {
-        return number;
+    let answer = openings_answer(numbers, n, piles);
+    if answer != 0 {
+        return answer;
     }
     if room < body_at(desks, piles, piles) {
         return 8;

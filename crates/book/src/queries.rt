@@ -7,11 +7,11 @@ ghost use Rattle.rules.specs.Book.{rightsReply};
 ghost use Rattle.pile.specs.View.{sideOf};
 ghost use Rattle.pile.specs.Replies.{asReply};
 
-pub(crate) fn rights_of(book: &[u8], side: u8, number: u16, desk: u8) -> Amount
+pub(crate) fn rights_of(book: &[u8], side: u8, desk: u8, number: u16) -> Amount
     ensures { λ r. ⌜ asReply r ≡ rightsReply (sideOf side) desk (now (book .entry)) number ⌝ }
 {
     let found = find(book, desk, number);
-    let refusal = found.number;
+    let refusal = found.answer;
     if refusal != 0 {
         return Amount::Refused(refusal);
     }

@@ -1,6 +1,6 @@
 // Is a book readable? The first refusal of its bytes and bodies.
-use crate::head::contents_right;
-use crate::head::head_right;
+use crate::head::contents_sound;
+use crate::head::head_sound;
 use crate::layout::body_at;
 use crate::layout::body_length;
 use crate::load::load;
@@ -13,7 +13,7 @@ ghost use Rattle.rules.specs.Layout.{bodyView, bodyAt, bookLength};
 ghost use Rattle.rules.specs.Book.{bookAnswer};
 
 // The first refusal of a body, in file order: each is loaded, and the record's own check is asked.
-pub(crate) fn bodies_number(book: &[u8], n: u8, p: usize) -> u8
+pub(crate) fn bodies_answer(book: &[u8], n: u8, p: usize) -> u8
     requires { ⌜ (1 ≤ n) × (n ≤ 8) × (p ≤ 32) × (length (now book) ≡ bookLength n p) ⌝ }
     ensures { λ r. ⌜ r ≡ first p (λ k. pileAnswer n (bodyView n (now (book .entry)) (bodyAt n p k))) ⌝ }
 {
@@ -22,9 +22,9 @@ pub(crate) fn bodies_number(book: &[u8], n: u8, p: usize) -> u8
     let mut k = 0;
     while k < p {
         let pile = load(book, n, at);
-        let number = pile.check();
-        if number != 0 {
-            return number;
+        let answer = pile.check();
+        if answer != 0 {
+            return answer;
         }
         at += size;
         k += 1;
@@ -33,13 +33,13 @@ pub(crate) fn bodies_number(book: &[u8], n: u8, p: usize) -> u8
 }
 
 // A book's own number: head, length and contents, and then its bodies.
-pub(crate) fn book_number(book: &[u8]) -> u8
+pub(crate) fn book_answer(book: &[u8]) -> u8
     ensures { λ r. ⌜ r ≡ bookAnswer (now (book .entry)) ⌝ }
 {
     if book.len() < 4 {
         return 1;
     }
-    if !head_right(book) {
+    if !head_sound(book) {
         return 2;
     }
     let n = book[1];
@@ -47,8 +47,8 @@ pub(crate) fn book_number(book: &[u8]) -> u8
     if book.len() != body_at(n as usize, p, p) {
         return 3;
     }
-    if !contents_right(book, n as usize, p) {
+    if !contents_sound(book, n as usize, p) {
         return 4;
     }
-    bodies_number(book, n, p)
+    bodies_answer(book, n, p)
 }

@@ -1,6 +1,8 @@
 // A pile record written as a body of the book.
 use number::put4;
 use pile::Pile;
+use pile::ROW;
+use pile::TIPS;
 ghost use mathlib.Core.Path.{_≡_};
 ghost use Prim.Native.Nat.{_+_, _*_, _≤_};
 ghost use mathlib.Core.List.{_++_};
@@ -9,7 +11,7 @@ ghost use lib.Seq.{sets};
 ghost use Rattle.rules.specs.Loops.{flat, list};
 ghost use Rattle.rules.specs.Numbers.{encode};
 ghost use Rattle.rules.specs.Layout.{rowLength, bodyLength, bodyBytes};
-ghost use Rattle.rules.specs.Record.{recordView};
+ghost use Rattle.rules.specs.Record.{recordView, rowPlaces, tallyPlaces};
 ghost use Rattle.pile.specs.View.{asRecord};
 
 // Writes count numbers of an array, from a place on, into the book from a position on.
@@ -25,23 +27,23 @@ pub(crate) fn put_run(book: &mut [u8], at: usize, numbers: &[u32], from: usize, 
 }
 
 // Writes the rows of n desks, out of 8 rows of tallies, at a position.
-fn save_rows(book: &mut [u8], at: usize, n: usize, tallies: &[u32])
-    requires { ⌜ (n ≤ 8) × (at + n * rowLength n ≤ length (now book)) × (length (now tallies) ≡ 144) ⌝ }
+fn save_rows(book: &mut [u8], n: usize, at: usize, tallies: &[u32])
+    requires { ⌜ (n ≤ 8) × (at + n * rowLength n ≤ length (now book)) × (length (now tallies) ≡ tallyPlaces) ⌝ }
     ensures { λ _. ⌜ now (book .exit) ≡ sets (now (book .entry)) at (flat n (λ i. encode
-        (list (2 + n) (λ k. getD (now (tallies .entry)) (i * 18 + k) 0) ++ list n (λ k. getD (now (tallies .entry)) (i * 18 + 10 + k) 0)))) ⌝ }
+        (list (2 + n) (λ k. getD (now (tallies .entry)) (i * rowPlaces + k) 0) ++ list n (λ k. getD (now (tallies .entry)) (i * rowPlaces + 10 + k) 0)))) ⌝ }
 {
     let row = 8 * (n + 1);
     let mut i = 0;
     while i < n {
         let to = at + i * row;
-        put_run(book, to, tallies, i * 18, 2 + n);
-        put_run(book, to + 8 + 4 * n, tallies, i * 18 + 10, n);
+        put_run(book, to, tallies, i * ROW, 2 + n);
+        put_run(book, to + 8 + 4 * n, tallies, i * ROW + TIPS, n);
         i += 1;
     }
 }
 
 // Writes the body of a pile of n desks at a position.
-pub(crate) fn save(book: &mut [u8], at: usize, n: usize, pile: Pile)
+pub(crate) fn save(book: &mut [u8], n: usize, at: usize, pile: Pile)
     requires { ⌜ (n ≤ 8) × (at + bodyLength n ≤ length (now book)) ⌝ }
     ensures { λ _. ⌜ now (book .exit) ≡ sets (now (book .entry)) at (bodyBytes n (recordView (asRecord pile))) ⌝ }
 {
@@ -51,5 +53,5 @@ pub(crate) fn save(book: &mut [u8], at: usize, n: usize, pile: Pile)
     put_run(book, at + 8, &shares, 0, n);
     put_run(book, at + 8 + 4 * n, &shares, 8, n);
     let tallies = pile.tallies;
-    save_rows(book, at + 8 * (n + 1), n, &tallies);
+    save_rows(book, n, at + 8 * (n + 1), &tallies);
 }

@@ -11,9 +11,9 @@ use Rattle.rules.proofs.Pile.Tonnage.{tonnage-within, rights-most}
 use Rattle.rules.proofs.Record.Facts.{record-range, record-facts}
 use Rattle.pile.specs.View.{Audited}
 
-module _ {r : Record} {number weight : ℕ} {left : Side → List ℕ} (a : Audited r number weight left) (z : number ≡ 0) where
+module _ {r : Record} {answer weight : ℕ} {left : Side → List ℕ} (a : Audited r answer weight left) (z : answer ≡ 0) where
   pub passed : recordAnswer r ≡ 0
-  passed = sym (a .number-is) ∙ z
+  passed = sym (a .answer-is) ∙ z
 
   pub desks-most : r .n ≤ 8
   desks-most = record-range r passed .1

@@ -44,21 +44,21 @@ module _ (r : Record) where
   give-at draw i j = ap (λ (k : ℕ). getD (r .tallies) k 0) (omega arith)
   give-at tip i j = ap (λ (k : ℕ). getD (r .tallies) k 0) (omega arith)
 
-  module _ (n : ℕ) (s : Side) {right : Bool} {total : ℕ} {credit′ debit′ : List ℕ}
-      (a : Accounted (r .shares) (r .tallies) (sideNumber s) n right total credit′ debit′) where
-    pub total-is : total ≡ sum n (P .share s)
-    total-is = a .shares-sum ∙ sum-cong n (λ i _. share-at s i)
+  module _ (n : ℕ) (s : Side) {sound : Bool} {shareSum : ℕ} {credit′ debit′ : List ℕ}
+      (a : Accounted (r .shares) (r .tallies) (sideNumber s) n sound shareSum credit′ debit′) where
+    pub share-sum-is : shareSum ≡ sum n (P .share s)
+    share-sum-is = a .shares-sum ∙ sum-cong n (λ i _. share-at s i)
 
-    pub credit-is : right ≡ true → (i : ℕ) → i < n → getD credit′ i 0 ≡ credit n P s i
+    pub credit-is : sound ≡ true → (i : ℕ) → i < n → getD credit′ i 0 ≡ credit n P s i
     unfolding credit
     credit-is e i l =
         a .credits e i l ∙ ap₂ _+_ (ap₂ _+_ (share-at s i) (earned-at s i)) (sum-cong n (λ j _. give-at s j i))
 
-    pub debit-is : right ≡ true → (i : ℕ) → i < n → getD debit′ i 0 ≡ debit n P s i
+    pub debit-is : sound ≡ true → (i : ℕ) → i < n → getD debit′ i 0 ≡ debit n P s i
     unfolding debit
     debit-is e i l = a .debits e i l ∙ ap₂ _+_ (sum-cong n (λ j _. give-at s i j)) (spent-at s i)
 
-  -- 7: where the accounts are right, no rights are negative exactly where each debit is covered
+  -- 7: where the accounts are sound, no rights are negative exactly where each debit is covered
   pub lawful-is : (n : ℕ) (credits debits : Side → List ℕ)
       → ((s : Side) (i : ℕ) → i < n → getD (credits s) i 0 ≡ credit n P s i) → ((s : Side) (i : ℕ) → i < n → getD (debits s) i 0 ≡ debit n P s i)
       → every n (λ i. leb (getD (debits draw) i 0) (getD (credits draw) i 0)) and every n (λ i. leb (getD (debits tip) i 0) (getD (credits tip) i 0)) ≡ lawful n P

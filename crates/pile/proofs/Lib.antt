@@ -4,6 +4,6 @@ pub mod Checked
 pub mod Unused
 pub mod Verdict
 pub mod Sides
-pub mod ActNumber
+pub mod ActLines
 pub mod Audits
-pub mod Answers
+pub mod Replies

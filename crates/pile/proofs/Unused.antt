@@ -13,13 +13,13 @@ use borrow.Author.Tests.{leb-true, eqb-true, eq-eqb, le-leb, lt-ltb}
 use Rattle.rules.specs.Loops.{_and_, every}
 use Rattle.rules.specs.Pile.{Side, draw, tip, Pile, tallyLimit, talliesLawful}
 use Rattle.rules.specs.Layout.{column, earnedColumn}
-use Rattle.rules.specs.Record.{Record, recordView, unusedShares, unusedPlaces}
+use Rattle.rules.specs.Record.{Record, recordView, unusedShares, unusedPlaces, rowPlaces, tallyPlaces}
 use Rattle.rules.proofs.Loops.Logic.{same, and-left, and-right, and-both, or-first, or-second}
 use Rattle.rules.proofs.Loops.Every.{every-at, every-all}
 use Rattle.rules.proofs.Pile.Facts.{both-at, both-all}
 use Rattle.rules.proofs.File.Body.{by-column, column-below}
 use Rattle.rules.proofs.Record.Unused.{unused-share, unused-earned, unused-give}
-use Rattle.pile.specs.Account.{rowRight}
+use Rattle.pile.specs.Account.{rowSound}
 use Rattle.pile.proofs.Checked.{sideNumber, share-at, earned-at, give-at}
 
 zero-at : (m : ℕ) (f : ℕ → ℕ) → every m (λ k. eqb (f k) 0) ≡ true → (k : ℕ) → k < m → f k ≡ 0
@@ -76,24 +76,24 @@ module _ (r : Record) (n : ℕ) (n≤8 : n ≤ 8) where
 
   -- the rows past n, as one range
   abbrev rest : Bool
-  rest = every (144 - n * 18) (λ k. eqb (getD (r .tallies) (n * 18 + k) 0) 0)
+  rest = every (tallyPlaces - n * rowPlaces) (λ k. eqb (getD (r .tallies) (n * rowPlaces + k) 0) 0)
 
-  rest-at : rest ≡ true → (i c : ℕ) → n ≤ i → i < 8 → c < 18 → getD (r .tallies) (i * 18 + c) 0 ≡ 0
-  rest-at e i c n≤i i<8 c<18 =
-      let at : i * 18 + c ≡ n * 18 + (i * 18 + c - n * 18) = omega arith in
-      ap (λ (q : ℕ). getD (r .tallies) q 0) at ∙ zero-at (144 - n * 18) (λ k. getD (r .tallies) (n * 18 + k) 0) e (i * 18 + c - n * 18) (omega arith)
+  rest-at : rest ≡ true → (i c : ℕ) → n ≤ i → i < 8 → c < rowPlaces → getD (r .tallies) (i * rowPlaces + c) 0 ≡ 0
+  rest-at e i c n≤i i<8 c<rowPlaces =
+      let at : i * rowPlaces + c ≡ n * rowPlaces + (i * rowPlaces + c - n * rowPlaces) = omega arith in
+      ap (λ (q : ℕ). getD (r .tallies) q 0) at ∙ zero-at (tallyPlaces - n * rowPlaces) (λ k. getD (r .tallies) (n * rowPlaces + k) 0) e (i * rowPlaces + c - n * rowPlaces) (omega arith)
 
   rest-all : ((s : Side) (i : ℕ) → n ≤ i → i < 8 → P .earned s i ≡ 0)
       → ((s : Side) (i j : ℕ) → i < 8 → j < 8 → (n ≤ i) ⊎ (n ≤ j) → P .give s i j ≡ 0) → rest ≡ true
-  rest-all h g = zero-all (144 - n * 18) _ (λ k l. place (n * 18 + k) (omega arith) (omega arith))
+  rest-all h g = zero-all (tallyPlaces - n * rowPlaces) _ (λ k l. place (n * rowPlaces + k) (omega arith) (omega arith))
     where
-      place : (q : ℕ) → n * 18 ≤ q → q < 144 → getD (r .tallies) q 0 ≡ 0
+      place : (q : ℕ) → n * rowPlaces ≤ q → q < tallyPlaces → getD (r .tallies) q 0 ≡ 0
       place q low high =
-          let i<8 : q / 18 < 8 = div-lt-iff-lt-mul (lit< tt) .1 high in
-          let n≤i : n ≤ q / 18 = le-div-iff-mul-le (lit< tt) .1 low in
-          ap (λ (q : ℕ). getD (r .tallies) q 0) (sym (div-add-mod' q 18))
-          ∙ by-column 8 (λ c. getD (r .tallies) (q / 18 * 18 + c) 0 ≡ 0) (h draw (q / 18) n≤i i<8) (h tip (q / 18) n≤i i<8)
-          (λ s j j<8. g s (q / 18) j i<8 j<8 (inl n≤i)) (q % 18) (mod-lt q (lit< tt))
+          let i<8 : q / rowPlaces < 8 = div-lt-iff-lt-mul (lit< tt) .1 high in
+          let n≤i : n ≤ q / rowPlaces = le-div-iff-mul-le (lit< tt) .1 low in
+          ap (λ (q : ℕ). getD (r .tallies) q 0) (sym (div-add-mod' q rowPlaces))
+          ∙ by-column 8 (λ c. getD (r .tallies) (q / rowPlaces * rowPlaces + c) 0 ≡ 0) (h draw (q / rowPlaces) n≤i i<8) (h tip (q / rowPlaces) n≤i i<8)
+          (λ s j j<8. g s (q / rowPlaces) j i<8 j<8 (inl n≤i)) (q % rowPlaces) (mod-lt q (lit< tt))
 
   -- the tallies of desk i on one side are lawful
   pub record SideLawful (s : Side) (i : ℕ) : Type 0 where
@@ -118,15 +118,15 @@ module _ (r : Record) (n : ℕ) (n≤8 : n ≤ 8) where
       (and-both (every-all n (λ j l. le-leb _ _ (h s .give j l))) (eq-eqb _ _ (h s .self))))
 
   -- the unused gives of a row, as the account reads them
-  past-n : (s : Side) (i k : ℕ) → getD (r .tallies) (i * 18 + (2 + 8 * sideNumber s) + n + k) 0 ≡ P .give s i (n + k)
+  past-n : (s : Side) (i k : ℕ) → getD (r .tallies) (i * rowPlaces + (2 + 8 * sideNumber s) + n + k) 0 ≡ P .give s i (n + k)
   past-n s i k =
-      let at : i * 18 + (2 + 8 * sideNumber s) + n + k ≡ i * 18 + (2 + 8 * sideNumber s) + (n + k) = omega arith in
+      let at : i * rowPlaces + (2 + 8 * sideNumber s) + n + k ≡ i * rowPlaces + (2 + 8 * sideNumber s) + (n + k) = omega arith in
       ap (λ (q : ℕ). getD (r .tallies) q 0) at ∙ give-at r s i (n + k)
 
-  -- what a right row of an account tells, and the other way round
-  row-lawful : (s : Side) (i : ℕ) → rowRight (r .shares) (r .tallies) (sideNumber s) n i ≡ true
+  -- what a sound row of an account tells, and the other way round
+  row-lawful : (s : Side) (i : ℕ) → rowSound (r .shares) (r .tallies) (sideNumber s) n i ≡ true
       → SideLawful s i × ((j : ℕ) → n ≤ j → j < 8 → P .give s i j ≡ 0)
-  unfolding rowRight
+  unfolding rowSound
   row-lawful s i e =
       let gives = and-left _ _ (and-right _ _ e) in (
         record {
@@ -138,8 +138,8 @@ module _ (r : Record) (n : ℕ) (n≤8 : n ≤ 8) where
       )
 
   lawful-row : (s : Side) (i : ℕ) → SideLawful s i → ((j : ℕ) → n ≤ j → j < 8 → P .give s i j ≡ 0)
-      → rowRight (r .shares) (r .tallies) (sideNumber s) n i ≡ true
-  unfolding rowRight
+      → rowSound (r .shares) (r .tallies) (sideNumber s) n i ≡ true
+  unfolding rowSound
   lawful-row s i h g =
       and-both (le-leb _ _ (subst (λ (x : ℕ). x ≤ tallyLimit) (sym (earned-at r s i)) (h .earned)))
       (and-both
@@ -150,22 +150,22 @@ module _ (r : Record) (n : ℕ) (n≤8 : n ≤ 8) where
       small : (j : ℕ) → j < 8 → P .give s i j ≤ tallyLimit
       small j j<8 = by-cases (decLt j n) (λ l. h .give j l) (λ l. omega (arith, g j (omega arith) j<8))
 
-  abbrev side-right : Side → Bool
-  side-right s = every n (rowRight (r .shares) (r .tallies) (sideNumber s) n)
+  abbrev side-sound : Side → Bool
+  side-sound s = every n (rowSound (r .shares) (r .tallies) (sideNumber s) n)
 
-  -- 6: the tallies are lawful and the unused places 0 exactly where both accounts are right and the rows past n are 0
-  pub tallies-right : side-right draw and side-right tip and rest ≡ every n (talliesLawful n P) and unusedPlaces n P
-  tallies-right = same _ _ forth back
+  -- 6: the tallies are lawful and the unused places 0 exactly where both accounts are sound and the rows past n are 0
+  pub tallies-sound : side-sound draw and side-sound tip and rest ≡ every n (talliesLawful n P) and unusedPlaces n P
+  tallies-sound = same _ _ forth back
     where
-      side : (s : Side) → side-right draw ≡ true → side-right tip ≡ true → side-right s ≡ true
+      side : (s : Side) → side-sound draw ≡ true → side-sound tip ≡ true → side-sound s ≡ true
       side draw d t = d
       side tip d t = t
 
-      earned-small : (s : Side) → earnedColumn s < 18
+      earned-small : (s : Side) → earnedColumn s < rowPlaces
       earned-small draw = lit< tt
       earned-small tip = lit< tt
 
-      forth : side-right draw and side-right tip and rest ≡ true → every n (talliesLawful n P) and unusedPlaces n P ≡ true
+      forth : side-sound draw and side-sound tip and rest ≡ true → every n (talliesLawful n P) and unusedPlaces n P ≡ true
       forth e =
           let row : (s : Side) (i : ℕ) → i < n → SideLawful s i × ((j : ℕ) → n ≤ j → j < 8 → P .give s i j ≡ 0)
           = λ s i l. row-lawful s i (every-at n _ (side s (and-left _ _ e) (and-left _ _ (and-right _ _ e))) i l) in
@@ -176,9 +176,9 @@ module _ (r : Record) (n : ℕ) (n≤8 : n ≤ 8) where
           (λ l. row s i l .1 j (⊎-elim (λ m. absurd (omega arith)) (λ m. m) h) j<8)
           (λ l. zero i (column 8 s j) (omega arith) i<8 (column-below 8 s j j<8))))
 
-      back : every n (talliesLawful n P) and unusedPlaces n P ≡ true → side-right draw and side-right tip and rest ≡ true
+      back : every n (talliesLawful n P) and unusedPlaces n P ≡ true → side-sound draw and side-sound tip and rest ≡ true
       back e =
-          let row : (s : Side) → side-right s ≡ true
+          let row : (s : Side) → side-sound s ≡ true
           = λ s. every-all n (λ i l. lawful-row s i (lawful-at i (every-at n _ (and-left _ _ e) i l) s)
           (λ j n≤j j<8. unused-give n P (and-right _ _ e) s i j (omega arith) j<8 (inr n≤j))) in
           and-both (row draw) (and-both (row tip) (rest-all (unused-earned n P (and-right _ _ e)) (unused-give n P (and-right _ _ e))))

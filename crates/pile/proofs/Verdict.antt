@@ -1,4 +1,4 @@
--- The tests of a check in their order, and the number that each gives: they are the lines of the table for a pile record alone.
+-- The tests of a check in their order, and the answer that each gives: they are the lines of the table for a pile record alone.
 -- Assumes nothing.
 use Prim.Native.Nat.{ℕ, suc, _+_, _-_, _*_, _≤_, _<_}
 use native.Mathlib.Nat.{suc-ne-zero}
@@ -12,28 +12,28 @@ use Rattle.rules.specs.Loops.{_and_, between, every}
 use Rattle.rules.specs.Refusals.{_when_, _orElse_}
 use Rattle.rules.specs.Layout.{deskLimit}
 use Rattle.rules.specs.Pile.{Side, draw, tip, Pile, credit, debit, rights, topLimit, openingLawful, talliesLawful, lawful}
-use Rattle.rules.specs.Record.{Record, recordView, recordAnswer, unusedShares, unusedPlaces}
+use Rattle.rules.specs.Record.{Record, recordView, recordAnswer, unusedShares, unusedPlaces, rowPlaces, tallyPlaces}
 use Rattle.rules.proofs.Loops.Logic.{and-left, and-right, and-both}
 use Rattle.rules.proofs.Loops.Sums.{sum-cong}
 use Rattle.rules.proofs.Pile.Tonnage.{tonnage-floor}
 use Rattle.rules.proofs.Record.Facts.{record-facts}
 use Rattle.pile.specs.Account.{Accounted, Balanced}
 use Rattle.pile.specs.View.{Audited, bySide}
-use Rattle.pile.proofs.Checked.{total-is, credit-is, debit-is, lawful-is}
-use Rattle.pile.proofs.Unused.{unused-shares, tallies-right}
+use Rattle.pile.proofs.Checked.{share-sum-is, credit-is, debit-is, lawful-is}
+use Rattle.pile.proofs.Unused.{unused-shares, tallies-sound}
 
 pub in-range : (n : ℕ) → between 1 deskLimit n ≡ true → (1 ≤ n) × (n ≤ 8)
 unfolding between
 in-range n e = (leb-true _ _ (and-left _ _ e), leb-true _ _ (and-right _ _ e))
 
 -- a refused record: nothing else is promised of it
-refuses : {r : Record} {answer weight : ℕ} {left : Side → List ℕ} (number : ℕ) → answer ≡ suc number → recordAnswer r ≡ suc number
+refuses : {r : Record} {answer weight : ℕ} {left : Side → List ℕ} (k : ℕ) → answer ≡ suc k → recordAnswer r ≡ suc k
     → Audited r answer weight left
-refuses number is e =
+refuses k is e =
     record {
-      number-is = is ∙ sym e;
-      tonnage-is = λ z. absurd (suc-ne-zero number (sym is ∙ z));
-      rights-are = λ z. absurd (suc-ne-zero number (sym is ∙ z));
+      answer-is = is ∙ sym e;
+      tonnage-is = λ z. absurd (suc-ne-zero k (sym is ∙ z));
+      rights-are = λ z. absurd (suc-ne-zero k (sym is ∙ z));
     }
 
 pub refused-2 : (r : Record) {answer weight : ℕ} {left : Side → List ℕ} → answer ≡ 2 → between 1 deskLimit (r .n) ≡ false
@@ -41,9 +41,9 @@ pub refused-2 : (r : Record) {answer weight : ℕ} {left : Side → List ℕ} �
 unfolding recordAnswer _when_ _orElse_
 refused-2 r is e = refuses 1 is (rw e)
 
-module _ (r : Record) (range : between 1 deskLimit (r .n) ≡ true) {dright tright : Bool} {dtotal ttotal : ℕ} {dcredit tcredit ddebit tdebit : List ℕ}
-    (d : Accounted (r .shares) (r .tallies) 0 (r .n) dright dtotal dcredit ddebit)
-    (t : Accounted (r .shares) (r .tallies) 1 (r .n) tright ttotal tcredit tdebit) where
+module _ (r : Record) (range : between 1 deskLimit (r .n) ≡ true) {dsound tsound : Bool} {dshares tshares : ℕ} {dcredit tcredit ddebit tdebit : List ℕ}
+    (d : Accounted (r .shares) (r .tallies) 0 (r .n) dsound dshares dcredit ddebit)
+    (t : Accounted (r .shares) (r .tallies) 1 (r .n) tsound tshares tcredit tdebit) where
   abbrev P : Pile
   P = recordView r
 
@@ -53,7 +53,7 @@ module _ (r : Record) (range : between 1 deskLimit (r .n) ≡ true) {dright trig
   -- 5
   abbrev openingTest : Bool
   openingTest =
-      (leb (r .floor) (r .top) and leb (r .top) topLimit and eqb (dtotal + ttotal) (r .top - r .floor))
+      (leb (r .floor) (r .top) and leb (r .top) topLimit and eqb (dshares + tshares) (r .top - r .floor))
       and (every (8 - r .n) (λ k. eqb (getD (r .shares) (r .n + k) 0) 0) and every (8 - r .n) (λ k. eqb (getD (r .shares) (8 + r .n + k) 0) 0))
 
   opening-test : openingTest ≡ openingLawful (r .n) P and unusedShares (r .n) P
@@ -61,7 +61,7 @@ module _ (r : Record) (range : between 1 deskLimit (r .n) ≡ true) {dright trig
   opening-test =
       ap₂ _and_
       (ap (λ (x : ℕ). leb (r .floor) (r .top) and leb (r .top) topLimit and eqb x (r .top - r .floor))
-      (ap₂ _+_ (total-is r (r .n) draw d) (total-is r (r .n) tip t)))
+      (ap₂ _+_ (share-sum-is r (r .n) draw d) (share-sum-is r (r .n) tip t)))
       (unused-shares r (r .n) n≤8)
 
   pub refused-5 : {answer weight : ℕ} {left : Side → List ℕ} → answer ≡ 5 → openingTest ≡ false → Audited r answer weight left
@@ -70,12 +70,12 @@ module _ (r : Record) (range : between 1 deskLimit (r .n) ≡ true) {dright trig
 
   -- 6
   abbrev talliesTest : Bool
-  talliesTest = dright and tright and every (144 - r .n * 18) (λ k. eqb (getD (r .tallies) (r .n * 18 + k) 0) 0)
+  talliesTest = dsound and tsound and every (tallyPlaces - r .n * rowPlaces) (λ k. eqb (getD (r .tallies) (r .n * rowPlaces + k) 0) 0)
 
   tallies-test : talliesTest ≡ every (r .n) (talliesLawful (r .n) P) and unusedPlaces (r .n) P
   tallies-test =
-      ap₂ (λ (a b : Bool). a and b and every (144 - r .n * 18) (λ k. eqb (getD (r .tallies) (r .n * 18 + k) 0) 0)) (d .rows-right) (t .rows-right)
-      ∙ tallies-right r (r .n) n≤8
+      ap₂ (λ (a b : Bool). a and b and every (tallyPlaces - r .n * rowPlaces) (λ k. eqb (getD (r .tallies) (r .n * rowPlaces + k) 0) 0)) (d .rows-sound) (t .rows-sound)
+      ∙ tallies-sound r (r .n) n≤8
 
   pub refused-6 : {answer weight : ℕ} {left : Side → List ℕ} → answer ≡ 6 → openingTest ≡ true → talliesTest ≡ false → Audited r answer weight left
   unfolding recordAnswer _when_ _orElse_
@@ -121,8 +121,8 @@ module _ (r : Record) (range : between 1 deskLimit (r .n) ≡ true) {dright trig
     pub accepted : {weight : ℕ} → weight ≡ r .floor + dleft → Audited r 0 weight (bySide drights trights)
     accepted is =
         record {
-          number-is = sym passes;
-          tonnage-is = λ _. is ∙ ap (λ (x : ℕ). r .floor + x) (db .total-is dl ∙ sum-cong (r .n) (less draw))
+          answer-is = sym passes;
+          tonnage-is = λ _. is ∙ ap (λ (x : ℕ). r .floor + x) (db .all-is dl ∙ sum-cong (r .n) (less draw))
               ∙ sym (tonnage-floor (r .n) P (record-facts r passes));
           rights-are = λ _. rights-are;
         }

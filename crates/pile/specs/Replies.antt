@@ -6,4 +6,4 @@ use Rattle.pile.specs.declared.Amount.the-variants.{Tonnes, Refused}
 
 abbrev pub asReply : Amount → Reply
 asReply (Tonnes x) = value x
-asReply (Refused number) = refused number
+asReply (Refused answer) = refused answer

@@ -14,11 +14,11 @@ use Rattle.pile.specs.declared.Pile.{Pile}
 abbrev pub asRecord : Pile → Record
 asRecord p = record { n = p .n; floor = p .floor; top = p .top; shares = p .shares; tallies = p .tallies }
 
--- the number of a check, and where it is 0 the tonnage and the rights of each side and desk
-pub record Audited (r : Record) (number weight : ℕ) (left : Side → List ℕ) : Type 0 where
-  pub number-is : number ≡ recordAnswer r
-  pub tonnage-is : number ≡ 0 → weight ≡ tonnage (r .n) (recordView r)
-  pub rights-are : number ≡ 0 → (s : Side) (i : ℕ) → i < r .n → getD (left s) i 0 ≡ rights (r .n) (recordView r) s i
+-- the answer of a check, and where it is 0 the tonnage and the rights of each side and desk
+pub record Audited (r : Record) (answer weight : ℕ) (left : Side → List ℕ) : Type 0 where
+  pub answer-is : answer ≡ recordAnswer r
+  pub tonnage-is : answer ≡ 0 → weight ≡ tonnage (r .n) (recordView r)
+  pub rights-are : answer ≡ 0 → (s : Side) (i : ℕ) → i < r .n → getD (left s) i 0 ≡ rights (r .n) (recordView r) s i
 
 -- by side
 abbrev pub bySide : List ℕ → List ℕ → Side → List ℕ

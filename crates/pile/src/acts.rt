@@ -1,6 +1,8 @@
 // The acts on a record. Tip and draw spend rights of a side, the two gives give them: the side is a parameter, 0 for draw and 1 for tip.
-use crate::Entered;
+use crate::Outcome;
+use crate::PLACES;
 use crate::Pile;
+use crate::ROW;
 use crate::check::audit_of;
 use crate::parts::wide;
 use crate::queries::rights_at;
@@ -13,17 +15,17 @@ ghost use Rattle.rules.specs.Loops.{_or_};
 ghost use Rattle.rules.specs.Pile.{tallyLimit};
 ghost use Rattle.rules.specs.Acts.{Kind, spend, give};
 ghost use Rattle.rules.specs.Layout.{column};
-ghost use Rattle.rules.specs.Record.{recordAnswer, recordActAnswer, recordAfterAct};
+ghost use Rattle.rules.specs.Record.{recordAnswer, recordActAnswer, recordAfterAct, rowPlaces};
 ghost use Rattle.pile.specs.View.{asRecord, sideOf, Means};
 
-// The number of an act of a desk that needs rights of a side and adds to the tally at a column of the desk's row.
-pub(crate) fn act_number(p: Pile, side: u8, desk: u8, wrong: bool, column: usize, amount: u32) -> u8
-    requires { ⌜ column < 18 ⌝ }
-    ensures number { λ r. ⌜ ((kind : Kind) → Means (asRecord p) side desk wrong column kind → r ≡ recordActAnswer desk kind amount (asRecord p)) ⌝ }
-    ensures room { λ r. ⌜ (r ≡ 0 → (recordAnswer (asRecord p) ≡ 0) × (wrong ≡ false) × (desk < 8) × (getD (p .tallies) (desk * 18 + column) 0 + amount ≤ tallyLimit)) ⌝ }
+// The answer of an act of a desk that needs rights of a side and adds to the tally at a column of the desk's row.
+pub(crate) fn act_answer(p: Pile, side: u8, desk: u8, wrong: bool, column: usize, amount: u32) -> u8
+    requires { ⌜ column < rowPlaces ⌝ }
+    ensures answer { λ r. ⌜ ((kind : Kind) → Means (asRecord p) side desk wrong column kind → r ≡ recordActAnswer desk kind amount (asRecord p)) ⌝ }
+    ensures room { λ r. ⌜ (r ≡ 0 → (recordAnswer (asRecord p) ≡ 0) × (wrong ≡ false) × (desk < 8) × (getD (p .tallies) (desk * rowPlaces + column) 0 + amount ≤ tallyLimit)) ⌝ }
 {
     let audit = audit_of(p);
-    let own = audit.number;
+    let own = audit.answer;
     if own != 0 {
         return own;
     }
@@ -44,33 +46,33 @@ pub(crate) fn act_number(p: Pile, side: u8, desk: u8, wrong: bool, column: usize
         return 14;
     }
     let tallies = p.tallies;
-    if Pile::TALLY_LIMIT < wide(tallies[i * 18 + column]) + wide(amount) {
+    if Pile::TALLY_LIMIT < wide(tallies[i * ROW + column]) + wide(amount) {
         return 15;
     }
     0
 }
 
-// The act itself: its number, and the record after it, unaltered where it is refused.
-pub(crate) fn enter(p: Pile, side: u8, desk: u8, wrong: bool, column: usize, amount: u32) -> Entered
-    requires { ⌜ column < 18 ⌝ }
-    ensures { λ r. ⌜ ((kind : Kind) → Means (asRecord p) side desk wrong column kind → (r .number ≡ recordActAnswer desk kind amount (asRecord p)) × (asRecord (r .pile) ≡ recordAfterAct desk kind amount (asRecord p))) ⌝ }
+// The act itself: its answer, and the record after it, unaltered where it is refused.
+pub(crate) fn enter(p: Pile, side: u8, desk: u8, wrong: bool, column: usize, amount: u32) -> Outcome
+    requires { ⌜ column < rowPlaces ⌝ }
+    ensures { λ r. ⌜ ((kind : Kind) → Means (asRecord p) side desk wrong column kind → (r .answer ≡ recordActAnswer desk kind amount (asRecord p)) × (asRecord (r .pile) ≡ recordAfterAct desk kind amount (asRecord p))) ⌝ }
 {
-    let number = act_number(p, side, desk, wrong, column, amount);
-    if number != 0 {
-        return Entered { number, pile: p };
+    let answer = act_answer(p, side, desk, wrong, column, amount);
+    if answer != 0 {
+        return Outcome { answer, pile: p };
     }
-    let at = (desk as usize) * 18 + column;
+    let at = (desk as usize) * ROW + column;
     let mut next = p;
     next.tallies[at] = next.tallies[at] + amount;
-    Entered {
-        number: 0,
+    Outcome {
+        answer: 0,
         pile: next,
     }
 }
 
 // Tipping spends tip rights, and drawing draw rights.
-pub(crate) fn spend_side(p: Pile, side: u8, desk: u8, amount: u32) -> Entered
-    ensures number { λ r. ⌜ r .number ≡ recordActAnswer desk (spend (sideOf side)) amount (asRecord p) ⌝ }
+pub(crate) fn spend_side(p: Pile, side: u8, desk: u8, amount: u32) -> Outcome
+    ensures answer { λ r. ⌜ r .answer ≡ recordActAnswer desk (spend (sideOf side)) amount (asRecord p) ⌝ }
     ensures pile { λ r. ⌜ asRecord (r .pile) ≡ recordAfterAct desk (spend (sideOf side)) amount (asRecord p) ⌝ }
 {
     if side == 0 {
@@ -91,7 +93,7 @@ pub(crate) fn receiver_wrong(n: u8, desk: u8, receiver: u8) -> bool
 
 // The column of a side's gives to a receiver, where there is one.
 pub(crate) fn give_column(side: u8, receiver: u8) -> usize
-    ensures { λ r. ⌜ (r < 18) × (receiver < 8 → r ≡ column 8 (sideOf side) receiver) ⌝ }
+    ensures { λ r. ⌜ (r < rowPlaces) × (receiver < 8 → r ≡ column 8 (sideOf side) receiver) ⌝ }
 {
     if Pile::DESKS <= receiver {
         return 0;
@@ -99,12 +101,12 @@ pub(crate) fn give_column(side: u8, receiver: u8) -> usize
     if side == 0 {
         return 2 + receiver as usize;
     }
-    2 + (8 + receiver as usize)
+    2 + (PLACES + receiver as usize)
 }
 
 // A give of a side to a receiver.
-pub(crate) fn give_side(p: Pile, side: u8, desk: u8, receiver: u8, amount: u32) -> Entered
-    ensures number { λ r. ⌜ r .number ≡ recordActAnswer desk (give (sideOf side) receiver) amount (asRecord p) ⌝ }
+pub(crate) fn give_side(p: Pile, side: u8, desk: u8, receiver: u8, amount: u32) -> Outcome
+    ensures answer { λ r. ⌜ r .answer ≡ recordActAnswer desk (give (sideOf side) receiver) amount (asRecord p) ⌝ }
     ensures pile { λ r. ⌜ asRecord (r .pile) ≡ recordAfterAct desk (give (sideOf side) receiver) amount (asRecord p) ⌝ }
 {
     let wrong = receiver_wrong(p.n, desk, receiver);

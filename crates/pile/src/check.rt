@@ -1,5 +1,8 @@
 // The check of a record: its first refusal, and the tonnage and the rights that the check found.
+use crate::PLACES;
 use crate::Pile;
+use crate::ROW;
+use crate::TALLIES;
 use crate::account::account_of;
 use crate::account::balance_of;
 use crate::parts::all_zero;
@@ -12,17 +15,18 @@ ghost use Rattle.rules.specs.Loops.{_and_, between, every};
 ghost use Rattle.rules.specs.Layout.{deskLimit};
 ghost use Rattle.rules.specs.Pile.{topLimit};
 ghost use Rattle.pile.specs.View.{asRecord, Audited, bySide};
+ghost use Rattle.rules.specs.Record.{rowPlaces, tallyPlaces, sharePlaces};
 
-// A record's own number, and where it is 0 the tonnage and each desk's rights of either side.
-pub struct Audit {
-    pub number: u8,
+// A record's own refusal or 0, and where it is 0 the tonnage and each desk's rights of either side.
+pub(crate) struct Audit {
+    pub answer: u8,
     pub tonnage: u64,
-    pub draw: [u64; 8],
-    pub tip: [u64; 8],
+    pub draw: [u64; PLACES],
+    pub tip: [u64; PLACES],
 }
 
 // 1 to 8 desks.
-pub(crate) fn desks_right(n: u8) -> bool
+pub(crate) fn desks_in_range(n: u8) -> bool
     ensures { λ r. ⌜ r ≡ between 1 deskLimit n ⌝ }
 {
     if n < 1 {
@@ -32,9 +36,9 @@ pub(crate) fn desks_right(n: u8) -> bool
 }
 
 // floor ≤ top ≤ 10,000,000, all shares add up to top - floor, and the unused ones are 0.
-pub(crate) fn opening_right(floor: u32, top: u32, shares: &[u32], n: usize, total: u64) -> bool
-    requires { ⌜ (n ≤ 8) × (length (now shares) ≡ 16) ⌝ }
-    ensures { λ r. ⌜ r ≡ (leb floor top and leb top topLimit and eqb total (top - floor)) and (every (8 - n) (λ k. eqb (getD (now (shares .entry)) (n + k) 0) 0) and every (8 - n) (λ k. eqb (getD (now (shares .entry)) (8 + n + k) 0) 0)) ⌝ }
+pub(crate) fn opening_sound(floor: u32, top: u32, shares: &[u32], n: usize, sum: u64) -> bool
+    requires { ⌜ (n ≤ 8) × (length (now shares) ≡ sharePlaces) ⌝ }
+    ensures { λ r. ⌜ r ≡ (leb floor top and leb top topLimit and eqb sum (top - floor)) and (every (8 - n) (λ k. eqb (getD (now (shares .entry)) (n + k) 0) 0) and every (8 - n) (λ k. eqb (getD (now (shares .entry)) (8 + n + k) 0) 0)) ⌝ }
 {
     if top < floor {
         return false;
@@ -42,19 +46,19 @@ pub(crate) fn opening_right(floor: u32, top: u32, shares: &[u32], n: usize, tota
     if Pile::TOP_LIMIT < top {
         return false;
     }
-    if total != wide(top - floor) {
+    if sum != wide(top - floor) {
         return false;
     }
-    if !all_zero(shares, n, 8 - n) {
+    if !all_zero(shares, n, PLACES - n) {
         return false;
     }
-    all_zero(shares, 8 + n, 8 - n)
+    all_zero(shares, PLACES + n, PLACES - n)
 }
 
-// Both sides' rows are right, and the rows past n are 0.
-pub(crate) fn tallies_right(tallies: &[u32], n: usize, draw: bool, tip: bool) -> bool
-    requires { ⌜ (n ≤ 8) × (length (now tallies) ≡ 144) ⌝ }
-    ensures { λ r. ⌜ r ≡ draw and tip and every (144 - n * 18) (λ k. eqb (getD (now (tallies .entry)) (n * 18 + k) 0) 0) ⌝ }
+// Both sides' rows are sound, and the rows past n are 0.
+pub(crate) fn tallies_sound(tallies: &[u32], n: usize, draw: bool, tip: bool) -> bool
+    requires { ⌜ (n ≤ 8) × (length (now tallies) ≡ tallyPlaces) ⌝ }
+    ensures { λ r. ⌜ r ≡ draw and tip and every (tallyPlaces - n * rowPlaces) (λ k. eqb (getD (now (tallies .entry)) (n * rowPlaces + k) 0) 0) ⌝ }
 {
     if !draw {
         return false;
@@ -62,26 +66,26 @@ pub(crate) fn tallies_right(tallies: &[u32], n: usize, draw: bool, tip: bool) ->
     if !tip {
         return false;
     }
-    all_zero(tallies, n * 18, 144 - n * 18)
+    all_zero(tallies, n * ROW, TALLIES - n * ROW)
 }
 
 // A refused record: nothing else is promised of it.
-pub(crate) fn refused(number: u8) -> Audit
-    ensures { λ r. ⌜ r .number ≡ number ⌝ }
+pub(crate) fn refused(answer: u8) -> Audit
+    ensures { λ r. ⌜ r .answer ≡ answer ⌝ }
 {
     Audit {
-        number,
+        answer,
         tonnage: 0,
-        draw: [0; 8],
-        tip: [0; 8],
+        draw: [0; PLACES],
+        tip: [0; PLACES],
     }
 }
 
 // The first refusal in the table's order, and where there is none the tonnage and all rights.
 pub(crate) fn audit_of(p: Pile) -> Audit
-    ensures { λ r. ⌜ Audited (asRecord p) (r .number) (r .tonnage) (bySide (r .draw) (r .tip)) ⌝ }
+    ensures { λ r. ⌜ Audited (asRecord p) (r .answer) (r .tonnage) (bySide (r .draw) (r .tip)) ⌝ }
 {
-    if !desks_right(p.n) {
+    if !desks_in_range(p.n) {
         return refused(2);
     }
     let n = p.n as usize;
@@ -89,10 +93,10 @@ pub(crate) fn audit_of(p: Pile) -> Audit
     let tallies = p.tallies;
     let draw = account_of(&shares, &tallies, 0, n);
     let tip = account_of(&shares, &tallies, 1, n);
-    if !opening_right(p.floor, p.top, &shares, n, draw.total + tip.total) {
+    if !opening_sound(p.floor, p.top, &shares, n, draw.sum + tip.sum) {
         return refused(5);
     }
-    if !tallies_right(&tallies, n, draw.right, tip.right) {
+    if !tallies_sound(&tallies, n, draw.sound, tip.sound) {
         return refused(6);
     }
     let draws = balance_of(draw, n);
@@ -108,8 +112,8 @@ pub(crate) fn audit_of(p: Pile) -> Audit
     let draw_rights = draws.rights;
     let tip_rights = tips.rights;
     Audit {
-        number: 0,
-        tonnage: wide(p.floor) + draws.total,
+        answer: 0,
+        tonnage: wide(p.floor) + draws.all,
         draw: draw_rights,
         tip: tip_rights,
     }

@@ -17,22 +17,34 @@ ghost use Rattle.rules.specs.Record.{recordAnswer, freshAnswer, freshRecord, ze
 ghost use Rattle.pile.specs.View.{asRecord};
 ghost use Rattle.pile.specs.Replies.{asReply};
 
+// A record has places for 8 desks: 8 for each kind of shares and gives, so a row of tallies has 18.
+pub const PLACES: usize = 8;
+
+pub const SHARES: usize = 2 * PLACES;
+
+pub const ROW: usize = 2 + 2 * PLACES;
+
+// Where a row's tip gives start.
+pub const TIPS: usize = 2 + PLACES;
+
+pub const TALLIES: usize = PLACES * ROW;
+
 // n desks; shares of draw and then of tip, 8 each; 8 rows of tallies, each tipped, drawn, 8 draw gives and 8 tip gives. All past n is 0.
 pub struct Pile {
     pub n: u8,
     pub floor: u32,
     pub top: u32,
-    pub shares: [u32; 16],
-    pub tallies: [u32; 144],
+    pub shares: [u32; SHARES],
+    pub tallies: [u32; TALLIES],
 }
 
-// The answer of an act, and of the constructor: a refusal's number or 0, and the record.
-pub struct Entered {
-    pub number: u8,
+// What an act, the constructor and a fetch hand back: a refusal's number or 0, and the record.
+pub struct Outcome {
+    pub answer: u8,
     pub pile: Pile,
 }
 
-// The answer of a query: tonnes, or the refusal's number alone.
+// What a query hands back: tonnes, or the refusal's number alone.
 pub enum Amount {
     Tonnes(u32),
     Refused(u8),
@@ -48,8 +60,8 @@ impl Pile {
     pub const AMOUNT_LIMIT: u32 = 1_000;
 
     // A fresh record, with all tallies 0: refused, all zeros.
-    pub fn fresh(n: u8, floor: u32, top: u32, shares: [u32; 16]) -> Entered
-        ensures number { λ r. ⌜ r .number ≡ freshAnswer n floor top shares ⌝ }
+    pub fn fresh(n: u8, floor: u32, top: u32, shares: [u32; SHARES]) -> Outcome
+        ensures answer { λ r. ⌜ r .answer ≡ freshAnswer n floor top shares ⌝ }
         ensures pile { λ r. ⌜ asRecord (r .pile) ≡ freshRecord n floor top shares ⌝ }
     {
         let pile = Pile {
@@ -57,19 +69,19 @@ impl Pile {
             floor,
             top,
             shares,
-            tallies: [0; 144],
+            tallies: [0; TALLIES],
         };
-        let number = pile.check();
-        if number != 0 {
-            return Entered {
-                number,
+        let answer = pile.check();
+        if answer != 0 {
+            return Outcome {
+                answer,
                 pile: Pile::zero(),
             };
         }
-        Entered { number: 0, pile }
+        Outcome { answer: 0, pile }
     }
 
-    // The record of all zeros, which stands beside the number of a refusal.
+    // The record of all zeros, which a refused constructor or fetch hands back.
     pub fn zero() -> Pile
         ensures { λ r. ⌜ asRecord r ≡ zeroRecord ⌝ }
     {
@@ -77,8 +89,8 @@ impl Pile {
             n: 0,
             floor: 0,
             top: 0,
-            shares: [0; 16],
-            tallies: [0; 144],
+            shares: [0; SHARES],
+            tallies: [0; TALLIES],
         }
     }
 
@@ -87,7 +99,7 @@ impl Pile {
         ensures { λ r. ⌜ r ≡ recordAnswer (asRecord self) ⌝ }
     {
         let audit = audit_of(self);
-        audit.number
+        audit.answer
     }
 
     pub fn draw_rights(self, desk: u8) -> Amount
@@ -108,29 +120,29 @@ impl Pile {
         tonnage_of(self)
     }
 
-    pub fn tip(self, desk: u8, amount: u32) -> Entered
-        ensures number { λ r. ⌜ r .number ≡ recordActAnswer desk (spend tip) amount (asRecord self) ⌝ }
+    pub fn tip(self, desk: u8, amount: u32) -> Outcome
+        ensures answer { λ r. ⌜ r .answer ≡ recordActAnswer desk (spend tip) amount (asRecord self) ⌝ }
         ensures pile { λ r. ⌜ asRecord (r .pile) ≡ recordAfterAct desk (spend tip) amount (asRecord self) ⌝ }
     {
         spend_side(self, 1, desk, amount)
     }
 
-    pub fn draw(self, desk: u8, amount: u32) -> Entered
-        ensures number { λ r. ⌜ r .number ≡ recordActAnswer desk (spend draw) amount (asRecord self) ⌝ }
+    pub fn draw(self, desk: u8, amount: u32) -> Outcome
+        ensures answer { λ r. ⌜ r .answer ≡ recordActAnswer desk (spend draw) amount (asRecord self) ⌝ }
         ensures pile { λ r. ⌜ asRecord (r .pile) ≡ recordAfterAct desk (spend draw) amount (asRecord self) ⌝ }
     {
         spend_side(self, 0, desk, amount)
     }
 
-    pub fn give_draw(self, desk: u8, receiver: u8, amount: u32) -> Entered
-        ensures number { λ r. ⌜ r .number ≡ recordActAnswer desk (give draw receiver) amount (asRecord self) ⌝ }
+    pub fn give_draw(self, desk: u8, receiver: u8, amount: u32) -> Outcome
+        ensures answer { λ r. ⌜ r .answer ≡ recordActAnswer desk (give draw receiver) amount (asRecord self) ⌝ }
         ensures pile { λ r. ⌜ asRecord (r .pile) ≡ recordAfterAct desk (give draw receiver) amount (asRecord self) ⌝ }
     {
         give_side(self, 0, desk, receiver, amount)
     }
 
-    pub fn give_tip(self, desk: u8, receiver: u8, amount: u32) -> Entered
-        ensures number { λ r. ⌜ r .number ≡ recordActAnswer desk (give tip receiver) amount (asRecord self) ⌝ }
+    pub fn give_tip(self, desk: u8, receiver: u8, amount: u32) -> Outcome
+        ensures answer { λ r. ⌜ r .answer ≡ recordActAnswer desk (give tip receiver) amount (asRecord self) ⌝ }
         ensures pile { λ r. ⌜ asRecord (r .pile) ≡ recordAfterAct desk (give tip receiver) amount (asRecord self) ⌝ }
     {
         give_side(self, 1, desk, receiver, amount)

@@ -28,9 +28,9 @@ pub(crate) fn rights_of(p: Pile, side: u8, desk: u8) -> Amount
     ensures { λ r. ⌜ asReply r ≡ recordRightsReply (sideOf side) desk (asRecord p) ⌝ }
 {
     let audit = audit_of(p);
-    let number = audit.number;
-    if number != 0 {
-        return Amount::Refused(number);
+    let answer = audit.answer;
+    if answer != 0 {
+        return Amount::Refused(answer);
     }
     if p.n <= desk {
         return Amount::Refused(11);
@@ -44,9 +44,9 @@ pub(crate) fn tonnage_of(p: Pile) -> Amount
     ensures { λ r. ⌜ asReply r ≡ recordTonnageReply (asRecord p) ⌝ }
 {
     let audit = audit_of(p);
-    let number = audit.number;
-    if number != 0 {
-        return Amount::Refused(number);
+    let answer = audit.answer;
+    if answer != 0 {
+        return Amount::Refused(answer);
     }
     let tonnage = audit.tonnage;
     Amount::Tonnes(tonnage as u32)

@@ -16,21 +16,21 @@ use Rattle.rules.specs.Layout.{deskLimit, pileLimit, bodyLength, bodyAt,
 use Rattle.rules.specs.Opening.{rising}
 
 -- version 1, n, p, 0
-unfoldable pub headRight : List ℕ → Bool
-headRight b =
+unfoldable pub headSound : List ℕ → Bool
+headSound b =
     eqb (getD b 0 0) 1 and between 1 deskLimit (desks b) and between 1 pileLimit (piles b) and eqb (getD b 3 0) 0
 
-unfoldable pub contentsRight : List ℕ → Bool
-contentsRight b =
+unfoldable pub contentsSound : List ℕ → Bool
+contentsSound b =
     rising (piles b) (pileNumber b) and every (piles b) (λ k. eqb (position b k) (bodyAt (desks b) (piles b) k))
 
 -- "Book bytes", then "Each body, in file order"
 unfoldable pub bookAnswer : List ℕ → ℕ
 bookAnswer b =
     1 when ltb (length b) 4
-    orElse 2 when not (headRight b)
+    orElse 2 when not (headSound b)
     orElse 3 when not (eqb (length b) (bookLength (desks b) (piles b)))
-    orElse 4 when not (contentsRight b)
+    orElse 4 when not (contentsSound b)
     orElse first (piles b) (λ k. pileAnswer (desks b) (pileOf b k))
 
 -- where a pile number stands in the contents; p where it is absent

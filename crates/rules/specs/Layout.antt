@@ -18,16 +18,29 @@ pileLimit = 32
 abbrev pub pileNumberLimit : ℕ
 pileNumberLimit = 65535
 
--- A body is n + 1 rows of 2(n + 1) numbers: row 0 is the opening, row i + 1 belongs to desk i.
+-- A body is n + 1 rows of 2(n + 1) numbers: row 0 is the opening, row i + 1 belongs to desk i. A record's rows have the columns of 8 desks.
+abbrev pub columns : ℕ → ℕ
+columns w = 2 + (w + w)
+
 unfoldable pub rowLength : ℕ → ℕ
 rowLength n = 8 * (n + 1)
 
 unfoldable pub bodyLength : ℕ → ℕ
 bodyLength n = 8 * ((n + 1) * (n + 1))
 
+-- The front of a book of p piles: a head of 4 bytes, and for each pile an entry of 6, its number in 2 and its position in 4.
+abbrev pub entryAt : ℕ → ℕ
+entryAt k = 4 + k * 6
+
+abbrev pub positionAt : ℕ → ℕ
+positionAt k = 6 + k * 6
+
+abbrev pub frontLength : ℕ → ℕ
+frontLength p = 4 + p * 6
+
 -- where body k of a book of n desks and p piles starts; the book ends where a body p would
 unfoldable pub bodyAt : ℕ → ℕ → ℕ → ℕ
-bodyAt n p k = 4 + p * 6 + k * bodyLength n
+bodyAt n p k = frontLength p + k * bodyLength n
 
 unfoldable pub bookLength : ℕ → ℕ → ℕ
 bookLength n p = bodyAt n p p
@@ -73,10 +86,10 @@ abbrev pub piles : List ℕ → ℕ
 piles b = getD b 2 0
 
 unfoldable pub pileNumber : List ℕ → ℕ → ℕ
-pileNumber b k = number 2 b (4 + k * 6)
+pileNumber b k = number 2 b (entryAt k)
 
 unfoldable pub position : List ℕ → ℕ → ℕ
-position b k = number 4 b (6 + k * 6)
+position b k = number 4 b (positionAt k)
 
 unfoldable pub pileOf : List ℕ → ℕ → Pile
 pileOf b k = bodyView (desks b) b (bodyAt (desks b) (piles b) k)

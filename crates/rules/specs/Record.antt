@@ -10,10 +10,10 @@ use Rattle.rules.specs.Loops.{_and_, _or_, between, every, flat, list}
 use Rattle.rules.specs.Refusals.{_when_, _orElse_, done, Reply, reply}
 use Rattle.rules.specs.Pile.{Side, draw, tip, bothSides, Pile, openingLawful, talliesLawful, lawful, sameOpening, rights, tonnage}
 use Rattle.rules.specs.Acts.{Kind, tally, actRefusal}
-use Rattle.rules.specs.Layout.{deskLimit, actColumn, view, desks, piles, pileOf, bodyAt, bodyBytes}
+use Rattle.rules.specs.Layout.{deskLimit, columns, actColumn, view, desks, piles, pileOf, bodyAt, bodyBytes}
 use Rattle.rules.specs.Book.{place, fetchAnswer}
 
--- The flat arrays: the share of side s and desk j stands at 8s + j; row i of the tallies at 18i, its columns as in a body of 8 desks.
+-- The flat arrays: the share of side s and desk j stands at 8s + j; row i of the tallies at i * rowPlaces, its columns as in a body of 8 desks.
 pub record Record : Type 0 where
   pub n : ℕ
   pub floor : ℕ
@@ -22,7 +22,14 @@ pub record Record : Type 0 where
   pub tallies : List ℕ
 
 abbrev pub rowPlaces : ℕ
-rowPlaces = 18
+rowPlaces = columns deskLimit
+
+-- how many shares and tallies a record has
+abbrev pub sharePlaces : ℕ
+sharePlaces = 2 * deskLimit
+
+abbrev pub tallyPlaces : ℕ
+tallyPlaces = deskLimit * rowPlaces
 
 abbrev pub recordCell : Record → ℕ → ℕ → ℕ
 recordCell r zero c = getD (r .floor ∷ r .top ∷ r .shares) c 0
@@ -52,10 +59,10 @@ recordAnswer r =
     orElse 7 when not (lawful (r .n) (recordView r))
 
 abbrev pub zeroTallies : List ℕ
-zeroTallies = replicate (rowPlaces * deskLimit) 0
+zeroTallies = replicate tallyPlaces 0
 
 abbrev pub zeroRecord : Record
-zeroRecord = record { n = 0; floor = 0; top = 0; shares = replicate (2 * deskLimit) 0; tallies = zeroTallies }
+zeroRecord = record { n = 0; floor = 0; top = 0; shares = replicate sharePlaces 0; tallies = zeroTallies }
 
 -- a fresh record, from n, floor, top and shares alone: all zeros where it is refused
 abbrev pub fresh : ℕ → ℕ → ℕ → List ℕ → Record

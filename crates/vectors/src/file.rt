@@ -1,6 +1,6 @@
 // The worked book's file F: opened, read, and with an act on its pile stored. Each line has the call and its answer.
 use crate::amount;
-use crate::number;
+use crate::decimal;
 use crate::text;
 use book::body;
 use book::check;
@@ -16,7 +16,7 @@ use pile::Pile;
 fn answer(label: &[u8], x: u64) {
     text(label);
     text(b": ");
-    number(x);
+    decimal(x);
     text(b"\n");
 }
 
@@ -31,11 +31,11 @@ fn reply(label: &[u8], a: Amount) {
 fn queries(book: &[u8]) {
     reply(b"tonnage of 7", tonnage(book, 7));
     reply(b"tonnage of 8", tonnage(book, 8));
-    reply(b"draw rights of desk 0", draw_rights(book, 7, 0));
-    reply(b"tip rights of desk 0", tip_rights(book, 7, 0));
-    reply(b"tip rights of desk 2", tip_rights(book, 7, 2));
-    reply(b"tip rights of desk 3", tip_rights(book, 7, 3));
-    reply(b"tip rights of desk 3 in 8", tip_rights(book, 8, 3));
+    reply(b"draw rights of desk 0", draw_rights(book, 0, 7));
+    reply(b"tip rights of desk 0", tip_rights(book, 0, 7));
+    reply(b"tip rights of desk 2", tip_rights(book, 2, 7));
+    reply(b"tip rights of desk 3", tip_rights(book, 3, 7));
+    reply(b"tip rights of desk 3 in 8", tip_rights(book, 3, 8));
     answer(b"bytes of 7", body(book, 7).len() as u64);
     answer(b"bytes of 8", body(book, 8).len() as u64);
 }
@@ -47,9 +47,9 @@ fn put_back(label: &[u8], book: &mut [u8], number: u16, pile: Pile) {
 // A record fetched, acted on and stored again; then one whose opening differs.
 fn stored(book: &mut [u8]) {
     let fetched = fetch(book, 7);
-    answer(b"fetch 7", fetched.number as u64);
+    answer(b"fetch 7", fetched.answer as u64);
     let acted = fetched.pile.tip(0, 30);
-    answer(b"desk 0 tips 30", acted.number as u64);
+    answer(b"desk 0 tips 30", acted.answer as u64);
     put_back(b"store 7", book, 7, acted.pile);
     let mut other = acted.pile;
     other.shares[8] = 30;

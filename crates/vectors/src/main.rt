@@ -1,10 +1,10 @@
 // The worked book's pile as a record, and then (`file.rt`) its file. The record: F, the acts that make G of it, and what the table refuses on the way
-// and from G. Each line has the act, its number, and then the tonnage and the draw and tip rights of desks 0, 1 and 2 of the record that came back.
+// and from G. Each line has the act, its answer, and then the tonnage and the draw and tip rights of desks 0, 1 and 2 of the record that came back.
 mod file;
 
 use libc::STDOUT_FILENO;
 use pile::Amount;
-use pile::Entered;
+use pile::Outcome;
 use pile::Pile;
 ghost use Prim.Native.Nat.{_<_};
 
@@ -12,26 +12,26 @@ pub(crate) fn text(s: &[u8]) {
     io::write_all(STDOUT_FILENO, s);
 }
 
-pub(crate) fn number(x: u64) {
+pub(crate) fn decimal(x: u64) {
     io::print_decimal(STDOUT_FILENO, x);
 }
 
 pub(crate) fn amount(a: Amount) {
     text(b" ");
     match a {
-        Amount::Tonnes(x) => number(x as u64),
+        Amount::Tonnes(x) => decimal(x as u64),
         Amount::Refused(k) => {
             text(b"refused ");
-            number(k as u64);
+            decimal(k as u64);
         }
     }
 }
 
 // A line for an answer; its record is what the next act is entered in.
-fn line(label: &[u8], e: Entered) -> Pile {
+fn line(label: &[u8], e: Outcome) -> Pile {
     text(label);
     text(b": ");
-    number(e.number as u64);
+    decimal(e.answer as u64);
     let p = e.pile;
     text(b" now");
     amount(p.tonnage());

@@ -12,22 +12,22 @@ use borrow.Author.Needs.{needs}
 use Rattle.book.proofs.open.Statement.{statement}
 use Rattle.book.proofs.open.Tie as tie
 
-abbrev start : tie.After-opening-number → tie.Start
+abbrev start : tie.After-opening-answer → tie.Start
 start c = c .before .before .before
 
 -- the opening is accepted
 accepted : (c : tie.Else1) → let a = start (c .before) .args in openingAnswer (a .n) (a .p) (a .numbers .now) (length (a .out .now)) ≡ 0
-accepted c = sym (c .before .opening-number .ensures) ∙ c .if1 .left
+accepted c = sym (c .before .opening-answer .ensures) ∙ c .if1 .left
 
 facts : (c : tie.Else1) → let a = start (c .before) .args in Accepted (a .n) (a .p) (a .numbers .now) (length (a .out .now))
 facts c = accepted-facts _ _ _ _ (accepted c)
 
-opening-number-requires : tie.Need-opening-number-requires
-opening-number-requires c κs = search needs
+opening-answer-requires : tie.Need-opening-answer-requires
+opening-answer-requires c κs = search needs
 
 returns : tie.Need-returns
 unfolding afterOpening
-returns c = let number = c .before .opening-number .ensures in (number, sym (when-refused _ _ _ (λ z. c .if1 .taken (number ∙ z))))
+returns c = let number = c .before .opening-answer .ensures in (number, sym (when-refused _ _ _ (λ z. c .if1 .taken (number ∙ z))))
 
 put-front-requires : tie.Need-put-front-requires
 put-front-requires c κs =
@@ -55,7 +55,7 @@ pub open-spec : {M : Type 1} → statement M
 open-spec =
     tie.close
     (tie.spec
-    opening-number-requires
+    opening-answer-requires
     returns
     put-front-requires
     put-bodies-requires

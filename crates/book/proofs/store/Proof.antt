@@ -16,14 +16,14 @@ use Rattle.rules.proofs.File.Found.{found-readable, found-place, desk-0-fetch}
 use Rattle.rules.proofs.Record.RecordOf.{record-agrees}
 use Rattle.pile.specs.View.{asRecord}
 use Rattle.book.proofs.Lengths.{body-within}
-use Rattle.book.proofs.Numbers.{store-refused, store-own, store-record, store-30, store-accepted}
+use Rattle.book.proofs.BookLines.{store-refused, store-own, store-record, store-30, store-accepted}
 use Rattle.book.proofs.store.Statement.{statement}
 use Rattle.book.proofs.store.Tie as tie
 
 abbrev start : tie.After-find → tie.Start
 start c = c .before .before .before
 
-fetched : (c : tie.After-find) → c .find .result .number ≡ fetchAnswer (start c .args .book .now) (start c .args .number)
+fetched : (c : tie.After-find) → c .find .result .answer ≡ fetchAnswer (start c .args .book .now) (start c .args .number)
 fetched c = c .find .ensures .0 ∙ desk-0-fetch _ _
 
 -- past the first test the pile is found, and the book is as the table wants it
@@ -123,6 +123,9 @@ slice-read-p c = search (needs, facts (one (two (three (c .before)))) .long)
 cast-p : tie.Need-cast-p
 cast-p c = search (needs, facts (one (two (three (c .before)))) .piles-most)
 
+cast-save : tie.Need-cast-save
+cast-save c = search needs
+
 cast-body-at : tie.Need-cast-body-at
 cast-body-at c = search needs
 
@@ -130,9 +133,6 @@ body-at-requires : tie.Need-body-at-requires
 body-at-requires c κs =
     let first = one (two (three (c .before .before))) in
     let f = facts first in (f .desks-most, f .piles-most, omega (arith, below first, f .piles-most))
-
-cast-save : tie.Need-cast-save
-cast-save c = search needs
 
 save-requires : tie.Need-save-requires
 save-requires c κs =
@@ -173,9 +173,9 @@ store-spec =
     returns-4
     slice-read-p
     cast-p
+    cast-save
     cast-body-at
     body-at-requires
-    cast-save
     save-requires
     same-length-5
     returns-5)

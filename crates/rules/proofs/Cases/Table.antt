@@ -15,7 +15,7 @@ use Rattle.rules.specs.Acts.{Kind, Act, actRefusal}
 use Rattle.rules.specs.Layout.{rowLength, bodyLength, bodyAt, bookLength, cellAt, pileNumber, position, pileOf, rowOf, bodyRow, bodyBytes, entryBytes, bookBytes}
 use Rattle.rules.specs.Rows.{atLeast, alike, later, split, isRowLength, laterRow}
 use Rattle.rules.specs.Opening.{rising, given, givenPile, openingAnswer, opened, afterOpening}
-use Rattle.rules.specs.Book.{headRight, contentsRight, bookAnswer, place, absent, contentsAnswer, afterContents, fetchAnswer, bodyPart, tonnageReply, deskAnswer, rightsReply, actAnswer, tallyAt, afterAct}
+use Rattle.rules.specs.Book.{headSound, contentsSound, bookAnswer, place, absent, contentsAnswer, afterContents, fetchAnswer, bodyPart, tonnageReply, deskAnswer, rightsReply, actAnswer, tallyAt, afterAct}
 use Rattle.rules.specs.Record.{unusedShares, unusedPlaces, recordAnswer, freshAnswer, recordTonnageReply, recordDeskAnswer, recordRightsReply, recordActAnswer, paddedRow, recordOf, fetched, storeAnswer, afterStore}
 use Rattle.rules.specs.Take.{rowPart, sameBook, rowAnswer, takeAnswer, takenRow, taken, afterTake}
 
@@ -102,7 +102,7 @@ unfolding rising given givenPile openingAnswer opened afterOpening
 opening = tt
 
 unfoldable pub books : Unit {0}
-unfolding headRight contentsRight bookAnswer place absent contentsAnswer afterContents fetchAnswer bodyPart tonnageReply deskAnswer rightsReply actAnswer tallyAt afterAct
+unfolding headSound contentsSound bookAnswer place absent contentsAnswer afterContents fetchAnswer bodyPart tonnageReply deskAnswer rightsReply actAnswer tallyAt afterAct
 books = tt
 
 unfoldable pub records : Unit {0}

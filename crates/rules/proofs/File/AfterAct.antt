@@ -12,7 +12,7 @@ use borrow.Author.Tests.{eqb-true, eqb-false}
 use Rattle.rules.specs.Loops.{_and_}
 use Rattle.rules.specs.Pile.{Side, draw, tip, other, Pile}
 use Rattle.rules.specs.Acts.{Kind, spend, give, Act, tally, sameSide, acted}
-use Rattle.rules.specs.Layout.{bodyAt, column, earnedColumn, actColumn, bodyView, desks, piles, pileNumber, pileOf, bookBytes}
+use Rattle.rules.specs.Layout.{bodyAt, column, earnedColumn, actColumn, bodyView, desks, piles, pileNumber, pileOf, bookBytes, columns}
 use Rattle.rules.specs.Book.{bookAnswer, place, deskAnswer, actAnswer, tallyAt, afterAct}
 use Rattle.rules.proofs.Loops.Logic.{and-fails}
 use Rattle.rules.proofs.Loops.Refusals.{when-accepted, orElse-first, orElse-rest}
@@ -57,12 +57,12 @@ actedAt-facts n P k i kind t l a k′ f = go (eqb k′ k) refl
     go false e = f
 
 -- the act's column is one of its row's
-act-column : (n i : ℕ) (kind : Kind) → Receives n i kind → actColumn n kind < 2 + (n + n)
+act-column : (n i : ℕ) (kind : Kind) → Receives n i kind → actColumn n kind < columns n
 act-column n i (spend draw) r = omega arith
 act-column n i (spend tip) r = omega arith
 act-column n i (give s j) r = column-below n s j (r .0)
 
-earned-below : (n : ℕ) (s : Side) → earnedColumn s < 2 + (n + n)
+earned-below : (n : ℕ) (s : Side) → earnedColumn s < columns n
 earned-below n draw = omega arith
 earned-below n tip = omega arith
 

@@ -12,7 +12,7 @@ use lib.Seq.{getD-append-add}
 use Rattle.rules.specs.Loops.{flat, list}
 use Rattle.rules.specs.Numbers.{number, encode, part}
 use Rattle.rules.specs.Pile.{Side, draw, tip, Pile}
-use Rattle.rules.specs.Layout.{rowLength, bodyLength, cellAt, column, earnedColumn, view, bodyView, rowOf, bodyRow, bodyBytes}
+use Rattle.rules.specs.Layout.{rowLength, bodyLength, cellAt, column, earnedColumn, view, bodyView, rowOf, bodyRow, bodyBytes, columns}
 use Rattle.rules.specs.Acts.{give}
 use Rattle.rules.proofs.Loops.Sums.{term-le}
 use Rattle.rules.proofs.Loops.Pieces.{length-flat, flat-cong, flat-parts, length-list, getD-list, list-cong, list-add}
@@ -52,7 +52,7 @@ lawful-fits n p f =
 
 -- a row's numbers by column
 module _ (n a b : ℕ) (f : Side → ℕ → ℕ) where
-  pub length-row : length (rowOf n a b f) ≡ 2 + (n + n)
+  pub length-row : length (rowOf n a b f) ≡ columns n
   unfolding rowOf
   length-row = omega (arith, length-append (list n (f draw)) (list n (f tip)), length-list n (f draw), length-list n (f tip))
 
@@ -69,34 +69,34 @@ module _ (n a b : ℕ) (f : Side → ℕ → ℕ) where
       ∙ getD-list n (f tip) 0 j l
 
 -- every column is floor or tipped, top or drawn, or that of a side and a desk
-pub by-column : (n : ℕ) (P : ℕ → Type 0) → P 0 → P 1 → ((s : Side) (j : ℕ) → j < n → P (column n s j)) → (c : ℕ) → c < 2 + (n + n) → P c
+pub by-column : (n : ℕ) (P : ℕ → Type 0) → P 0 → P 1 → ((s : Side) (j : ℕ) → j < n → P (column n s j)) → (c : ℕ) → c < columns n → P c
 by-column n P first second rest zero l = first
 by-column n P first second rest (suc zero) l = second
 by-column n P first second rest (suc (suc c)) l =
     by-cases (decLt c n) (λ c<n. subst P (omega arith) (rest draw c c<n))
     (λ c≥n. subst P (omega arith) (rest tip (c - n) (omega arith)))
 
-pub column-below : (n : ℕ) (s : Side) (j : ℕ) → j < n → column n s j < 2 + (n + n)
+pub column-below : (n : ℕ) (s : Side) (j : ℕ) → j < n → column n s j < columns n
 column-below n draw j l = omega arith
 column-below n tip j l = omega arith
 
 -- the row that is read column by column
-pub row-of-columns : (n : ℕ) (g : ℕ → ℕ) → rowOf n (g 0) (g 1) (λ s j. g (column n s j)) ≡ list (2 + (n + n)) g
+pub row-of-columns : (n : ℕ) (g : ℕ → ℕ) → rowOf n (g 0) (g 1) (λ s j. g (column n s j)) ≡ list (columns n) g
 unfolding rowOf list flat
 row-of-columns n g =
     sym (list-add 2 (n + n) g ∙ ap (λ (r : List ℕ). list 2 g ++ r) (list-add n n (λ k. g (2 + k))))
 
-pub view-row : (n : ℕ) (cell : ℕ → ℕ → ℕ) (r : ℕ) → bodyRow n (view n cell) r ≡ list (2 + (n + n)) (cell r)
+pub view-row : (n : ℕ) (cell : ℕ → ℕ → ℕ) (r : ℕ) → bodyRow n (view n cell) r ≡ list (columns n) (cell r)
 unfolding bodyRow
 view-row n cell zero = row-of-columns n (cell 0)
 view-row n cell (suc i) = row-of-columns n (cell (suc i))
 
-pub length-numbers : (n : ℕ) (p : Pile) (r : ℕ) → length (bodyRow n p r) ≡ 2 + (n + n)
+pub length-numbers : (n : ℕ) (p : Pile) (r : ℕ) → length (bodyRow n p r) ≡ columns n
 unfolding bodyRow
 length-numbers n p zero = length-row n (p .floor) (p .top) (p .share)
 length-numbers n p (suc i) = length-row n (p .earned draw i) (p .earned tip i) (λ s. p .give s i)
 
-pub row-length : (n : ℕ) → (2 + (n + n)) * 4 ≡ rowLength n
+pub row-length : (n : ℕ) → (columns n) * 4 ≡ rowLength n
 unfolding rowLength
 row-length n = omega arith
 
@@ -117,8 +117,8 @@ write-row : (n : ℕ) (b : List ℕ) (at r : ℕ) → Octets b → at + r * rowL
 unfolding cellAt
 write-row n b at r o l =
     ap encode (view-row n (λ row column. number 4 b (at + cellAt n row column)) r
-    ∙ list-cong (2 + (n + n)) (λ c _. ap (number 4 b) (sym (add-assoc at (r * rowLength n) (c * 4)))))
-    ∙ encode-numbers (2 + (n + n)) b (at + r * rowLength n) o (omega (arith, row-length n))
+    ∙ list-cong (columns n) (λ c _. ap (number 4 b) (sym (add-assoc at (r * rowLength n) (c * 4)))))
+    ∙ encode-numbers (columns n) b (at + r * rowLength n) o (omega (arith, row-length n))
     ∙ ap (λ (m : ℕ). part (at + r * rowLength n) m b) (row-length n)
 
 pub write-body : (n : ℕ) (b : List ℕ) (at : ℕ) → Octets b → at + bodyLength n ≤ length b
@@ -132,7 +132,7 @@ write-body n b at o l =
 
 -- a body that was written is read again
 module _ (n : ℕ) (p : Pile) (fits : Fits n p) (b : List ℕ) (at : ℕ) (written : part at (bodyLength n) b ≡ bodyBytes n p) where
-  cell : (r c v : ℕ) → r < suc n → c < 2 + (n + n) → getD (bodyRow n p r) c 0 ≡ v → Fits4 v
+  cell : (r c v : ℕ) → r < suc n → c < columns n → getD (bodyRow n p r) c 0 ≡ v → Fits4 v
       → number 4 b (at + cellAt n r c) ≡ v
   unfolding bodyBytes cellAt
   cell r c v r<n c<w is fits =

@@ -6,11 +6,11 @@ use native.Mathlib.Decide.{ℕ-discrete}
 use native.Mathlib.Omega.{arith}
 use mathlib.Core.Path.{ap}
 use mathlib.Core.Logic.{_⊎_, inl, inr, ⊎-elim, by-cases, _≢_}
-use Rattle.rules.specs.Layout.{rowLength, bodyLength, bodyAt, bookLength, cellAt}
+use Rattle.rules.specs.Layout.{rowLength, bodyLength, bodyAt, bookLength, cellAt, columns}
 use Rattle.rules.proofs.Loops.Ranges.{Apart, below-or-above, pieces-apart}
 
 -- a cell of n desks lies within its body
-pub cell-fits : (n r c : ℕ) → r < suc n → c < 2 + (n + n) → cellAt n r c + 4 ≤ bodyLength n
+pub cell-fits : (n r c : ℕ) → r < suc n → c < columns n → cellAt n r c + 4 ≤ bodyLength n
 unfolding cellAt rowLength bodyLength
 cell-fits n r c r<n c<w = omega (arith, mul-le-mul-right (8 * (n + 1)) r<n)
 
@@ -20,14 +20,14 @@ unfolding bodyAt bookLength
 body-within n p k l = omega (arith, mul-le-mul-right (bodyLength n) l)
 
 -- cells of different bodies, and different cells of one body
-pub bodies-apart : (n p k k′ r r′ c c′ : ℕ) → r < suc n → r′ < suc n → c < 2 + (n + n) → c′ < 2 + (n + n) → k ≢ k′
+pub bodies-apart : (n p k k′ r r′ c c′ : ℕ) → r < suc n → r′ < suc n → c < columns n → c′ < columns n → k ≢ k′
     → Apart (bodyAt n p k + cellAt n r c) 4 (bodyAt n p k′ + cellAt n r′ c′) 4
 unfolding bodyAt
 bodies-apart n p k k′ r r′ c c′ r<n r′<n c<w c′<w h =
     ⊎-elim (λ l. inl (omega arith)) (λ l. inr (omega arith))
     (pieces-apart (bodyLength n) k k′ (cellAt n r c) (cellAt n r′ c′) 4 h (cell-fits n r c r<n c<w) (cell-fits n r′ c′ r′<n c′<w))
 
-pub cells-apart : (n at r r′ c c′ : ℕ) → c < 2 + (n + n) → c′ < 2 + (n + n) → (r ≢ r′) ⊎ (c ≢ c′)
+pub cells-apart : (n at r r′ c c′ : ℕ) → c < columns n → c′ < columns n → (r ≢ r′) ⊎ (c ≢ c′)
     → Apart (at + cellAt n r c) 4 (at + cellAt n r′ c′) 4
 unfolding cellAt rowLength
 cells-apart n at r r′ c c′ c<w c′<w h =

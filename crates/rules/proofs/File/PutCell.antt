@@ -10,7 +10,7 @@ use lib.ListN.{length, getD}
 use lib.Seq.{sets, length-sets}
 use Rattle.rules.specs.Numbers.{number, bytes}
 use Rattle.rules.specs.Pile.{Pile}
-use Rattle.rules.specs.Layout.{bodyLength, bodyAt, bookLength, cellAt, bodyView, desks, piles, pileNumber, position, bookBytes}
+use Rattle.rules.specs.Layout.{bodyLength, bodyAt, bookLength, cellAt, bodyView, desks, piles, pileNumber, position, bookBytes, columns, entryAt, positionAt, frontLength}
 use Rattle.rules.proofs.Bytes.Numbers.{Octets, octets-bytes}
 use Rattle.rules.proofs.Bytes.Put.{getD-sets-other, octets-sets, put-same, put-other}
 use Rattle.rules.proofs.Pile.Agree.{Agree}
@@ -31,12 +31,12 @@ pub record Puts (b : List ℕ) (k r c v : ℕ) : Type 0 where
   pub book : BookFacts b
   pub pile-in : k < piles b
   pub row-in : r < suc (desks b)
-  pub column-in : c < 2 + (desks b + desks b)
+  pub column-in : c < columns (desks b)
   pub fits : v < 256 ^ 4
 
 module _ (b : List ℕ) (k r c v : ℕ) (h : Puts b k r c v) where
   -- it lies behind the contents, and within the book
-  spot-behind : 4 + piles b * 6 ≤ spot b k r c
+  spot-behind : frontLength (piles b) ≤ spot b k r c
   unfolding bodyAt
   spot-behind = omega arith
 
@@ -47,22 +47,22 @@ module _ (b : List ℕ) (k r c v : ℕ) (h : Puts b k r c v) where
       (arith, h .book .sized, cell-fits (desks b) r c (h .row-in) (h .column-in), mul-le-mul-right (bodyLength (desks b)) (h .pile-in), suc-mul k (bodyLength (desks b)))
 
   -- before the bodies nothing changes
-  front : (q : ℕ) → q < 4 + piles b * 6 → getD (putCell b k r c v) q 0 ≡ getD b q 0
+  front : (q : ℕ) → q < frontLength (piles b) → getD (putCell b k r c v) q 0 ≡ getD b q 0
   front q l = getD-sets-other b (spot b k r c) (bytes 4 v) q (inl (omega (arith, spot-behind)))
 
-  put-contents : (w q : ℕ) → q + w ≤ 4 + piles b * 6 → number w (putCell b k r c v) q ≡ number w b q
+  put-contents : (w q : ℕ) → q + w ≤ frontLength (piles b) → number w (putCell b k r c v) q ≡ number w b q
   put-contents w q l = put-other 4 w b (spot b k r c) v q (inr (omega (arith, spot-behind)))
 
   pub put-cell : number 4 (putCell b k r c v) (spot b k r c) ≡ v
   put-cell = put-same 4 b (spot b k r c) v (h .fits) spot-within
 
-  pub put-pile : (k′ r′ c′ : ℕ) → r′ < suc (desks b) → c′ < 2 + (desks b + desks b) → k ≢ k′
+  pub put-pile : (k′ r′ c′ : ℕ) → r′ < suc (desks b) → c′ < columns (desks b) → k ≢ k′
       → number 4 (putCell b k r c v) (spot b k′ r′ c′) ≡ number 4 b (spot b k′ r′ c′)
   put-pile k′ r′ c′ r′<n c′<w d =
       put-other 4 4 b (spot b k r c) v _
       (bodies-apart (desks b) (piles b) k k′ r r′ c c′ (h .row-in) r′<n (h .column-in) c′<w d)
 
-  pub put-beside : (r′ c′ : ℕ) → c′ < 2 + (desks b + desks b) → (r ≢ r′) ⊎ (c ≢ c′)
+  pub put-beside : (r′ c′ : ℕ) → c′ < columns (desks b) → (r ≢ r′) ⊎ (c ≢ c′)
       → number 4 (putCell b k r c v) (spot b k r′ c′) ≡ number 4 b (spot b k r′ c′)
   put-beside r′ c′ c′<w d =
       put-other 4 4 b (spot b k r c) v _ (cells-apart (desks b) (bodyAt (desks b) (piles b) k) r r′ c c′ (h .column-in) c′<w d)
@@ -77,5 +77,5 @@ module _ (b : List ℕ) (k r c v : ℕ) (h : Puts b k r c v) where
       (write-book (desks b) (piles b) (pileNumber b) Q (putCell b k r c v)
       (octets-sets b (spot b k r c) (bytes 4 v) (h .octets) (octets-bytes 4 v))
       (length-sets b (spot b k r c) (bytes 4 v) ∙ h .book .sized) (front 0 (omega arith) ∙ h .book .version) (front 1 (omega arith)) (front 2 (omega arith))
-      (front 3 (omega arith) ∙ h .book .fourth) (λ k′ l. put-contents 2 (4 + k′ * 6) (omega arith))
-      (λ k′ l. put-contents 4 (6 + k′ * 6) (omega arith) ∙ h .book .placed k′ l) agree)
+      (front 3 (omega arith) ∙ h .book .fourth) (λ k′ l. put-contents 2 (entryAt k′) (omega arith))
+      (λ k′ l. put-contents 4 (positionAt k′) (omega arith) ∙ h .book .placed k′ l) agree)

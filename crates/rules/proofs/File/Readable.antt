@@ -13,7 +13,7 @@ use Rattle.rules.specs.Refusals.{_when_, _orElse_}
 use Rattle.rules.specs.Pile.{pileAnswer}
 use Rattle.rules.specs.Layout.{deskLimit, pileLimit, bodyLength, bodyAt, bookLength, desks, piles, pileNumber, position, pileOf, bookBytes}
 use Rattle.rules.specs.Opening.{rising}
-use Rattle.rules.specs.Book.{headRight, contentsRight, bookAnswer}
+use Rattle.rules.specs.Book.{headSound, contentsSound, bookAnswer}
 use Rattle.rules.proofs.Loops.Logic.{and-left, and-right, and-both}
 use Rattle.rules.proofs.Loops.Every.{every-at, every-all}
 use Rattle.rules.proofs.Loops.Refusals.{when-done, when-not-done, orElse-first, orElse-rest, first-at, first-none}
@@ -35,11 +35,11 @@ pub record BookFacts (b : List ℕ) : Type 0 where
   pub bodies : (k : ℕ) → k < piles b → pileAnswer (desks b) (pileOf b k) ≡ 0
 
 pub book-facts : (b : List ℕ) → bookAnswer b ≡ 0 → BookFacts b
-unfolding bookAnswer headRight contentsRight between
+unfolding bookAnswer headSound contentsSound between
 book-facts b e =
-    let head : headRight b ≡ true = when-not-done _ _ (orElse-first _ _ (orElse-rest _ _ e)) in
+    let head : headSound b ≡ true = when-not-done _ _ (orElse-first _ _ (orElse-rest _ _ e)) in
     let rest = orElse-rest _ _ (orElse-rest _ _ e) in
-    let contents : contentsRight b ≡ true = when-not-done _ _ (orElse-first _ _ (orElse-rest _ _ rest)) in
+    let contents : contentsSound b ≡ true = when-not-done _ _ (orElse-first _ _ (orElse-rest _ _ rest)) in
     let ranges = and-right _ _ head in
     record {
       long = ltb-false _ _ (when-done _ _ (orElse-first _ _ e));
@@ -56,7 +56,7 @@ book-facts b e =
     }
 
 pub book-passes : (b : List ℕ) → BookFacts b → bookAnswer b ≡ 0
-unfolding bookAnswer headRight contentsRight between _when_ _orElse_
+unfolding bookAnswer headSound contentsSound between _when_ _orElse_
 book-passes b f =
     rw (
       le-ltb _ _ (f .long),

@@ -11,7 +11,7 @@ use lib.Dec.{lit≤}
 use Rattle.rules.specs.Loops.{flat}
 use Rattle.rules.specs.Numbers.{number, bytes, part}
 use Rattle.rules.specs.Pile.{Pile}
-use Rattle.rules.specs.Layout.{bodyLength, bodyAt, bookLength, bodyView, desks, piles, pileNumber, position, pileOf, bodyBytes, entryBytes, bookBytes}
+use Rattle.rules.specs.Layout.{bodyLength, bodyAt, bookLength, bodyView, desks, piles, pileNumber, position, pileOf, bodyBytes, entryBytes, bookBytes, entryAt, positionAt, frontLength}
 use Rattle.rules.proofs.Loops.Pieces.{flat-cong, length-flat, flat-parts, part-add, part-front, part-behind, part-in-flat}
 use Rattle.rules.proofs.Bytes.Numbers.{Octets, length-bytes, number-front, number-append, number-flat, number-bytes, bytes-number}
 use Rattle.rules.proofs.Pile.Agree.{Agree}
@@ -52,7 +52,7 @@ module _ (n p : ℕ) (numbers : ℕ → ℕ) (pile : ℕ → Pile) where
   part-of-body k c m l fits =
       let contents = flat p (entryBytes n p numbers) in
       let bodies = flat p (λ k. bodyBytes n (pile k)) in
-      let at : 4 + p * 6 + k * bodyLength n + c ≡ 4 + (length contents + (k * bodyLength n + c)) = omega (arith, length-contents) in
+      let at : frontLength p + k * bodyLength n + c ≡ 4 + (length contents + (k * bodyLength n + c)) = omega (arith, length-contents) in
       ap (λ (at : ℕ). part at m (bookBytes n p numbers pile)) at
       ∙ part-behind (length contents + (k * bodyLength n + c)) m (1 ∷ n ∷ p ∷ 0 ∷ []) (contents ++ bodies)
       ∙ part-behind (k * bodyLength n + c) m contents bodies
@@ -115,15 +115,15 @@ module _ (n p : ℕ) (numbers : ℕ → ℕ) (pile : ℕ → Pile) (b : List ℕ
       ∙ ap₂ (λ (p z : ℕ). getD b 0 0 ∷ desks b ∷ p ∷ z ∷ []) (sym third) (sym fourth)
       ∙ sym (head-four b (omega arith))
 
-  write-entry : (k : ℕ) → k < p → entryBytes n p numbers k ≡ part (4 + k * 6) 6 b
+  write-entry : (k : ℕ) → k < p → entryBytes n p numbers k ≡ part (entryAt k) 6 b
   unfolding entryBytes pileNumber position bookLength bodyAt
   write-entry k l =
-      let behind : 6 + k * 6 ≡ 4 + k * 6 + 2 = omega arith in
-      ap₂ _++_ (ap (bytes 2) (sym (numbered k l)) ∙ bytes-number 2 b (4 + k * 6) o (omega arith))
-      (ap (bytes 4) (sym (placed k l)) ∙ bytes-number 4 b (6 + k * 6) o (omega arith) ∙ ap (λ (at : ℕ). part at 4 b) behind)
-      ∙ sym (part-add (4 + k * 6) 2 4 b)
+      let behind : positionAt k ≡ entryAt k + 2 = omega arith in
+      ap₂ _++_ (ap (bytes 2) (sym (numbered k l)) ∙ bytes-number 2 b (entryAt k) o (omega arith))
+      (ap (bytes 4) (sym (placed k l)) ∙ bytes-number 4 b (positionAt k) o (omega arith) ∙ ap (λ (at : ℕ). part at 4 b) behind)
+      ∙ sym (part-add (entryAt k) 2 4 b)
 
-  write-pile : (k : ℕ) → k < p → bodyBytes n (pile k) ≡ part (4 + p * 6 + k * bodyLength n) (bodyLength n) b
+  write-pile : (k : ℕ) → k < p → bodyBytes n (pile k) ≡ part (frontLength p + k * bodyLength n) (bodyLength n) b
   unfolding bookLength bodyAt
   write-pile k l =
       sym (body-cong n _ (pile k) (agree k l))
@@ -133,8 +133,8 @@ module _ (n p : ℕ) (numbers : ℕ → ℕ) (pile : ℕ → Pile) (b : List ℕ
   unfolding bookBytes bookLength bodyAt
   write-book =
       let contents : flat p (entryBytes n p numbers) ≡ part 4 (p * 6) b = flat-cong p write-entry ∙ flat-parts p 6 4 b in
-      let bodies : flat p (λ k. bodyBytes n (pile k)) ≡ part (4 + p * 6) (p * bodyLength n) b
-      = flat-cong p write-pile ∙ flat-parts p (bodyLength n) (4 + p * 6) b in
+      let bodies : flat p (λ k. bodyBytes n (pile k)) ≡ part (frontLength p) (p * bodyLength n) b
+      = flat-cong p write-pile ∙ flat-parts p (bodyLength n) (frontLength p) b in
       ap₂ _++_ write-head (ap₂ _++_ contents bodies ∙ sym (part-add 4 (p * 6) (p * bodyLength n) b))
       ∙ sym (part-add 0 4 (p * 6 + p * bodyLength n) b)
       ∙ take-all (4 + (p * 6 + p * bodyLength n)) b (omega arith)

@@ -9,7 +9,7 @@ use lib.Dec.{ltb}
 use Rattle.rules.specs.Refusals.{_when_}
 use Rattle.rules.specs.Pile.{Side, Pile, openingLawful}
 use Rattle.rules.specs.Layout.{earnedColumn, column}
-use Rattle.rules.specs.Record.{zeroTallies, fresh, freshAnswer, freshRecord, recordAnswer, recordOf}
+use Rattle.rules.specs.Record.{zeroTallies, fresh, freshAnswer, freshRecord, recordAnswer, recordOf, rowPlaces, tallyPlaces}
 use Rattle.rules.proofs.Loops.Refusals.{when-accepted}
 use Rattle.rules.proofs.Pile.Fresh.{fresh-pile-answer}
 use Rattle.rules.proofs.Record.RecordOf.{tallies-are, record-of-answer}
@@ -30,9 +30,9 @@ module _ (n : ℕ) (p : Pile) (earned : (s : Side) (i : ℕ) → p .earned s i �
     unfolding recordOf
     fresh-is =
         ap₂ (λ (l m : List ℕ). record { n = n; floor = p .floor; top = p .top; shares = l; tallies = m }) is
-        (tallies-are n p zeroTallies (length-replicate {A = ℕ} 144 0)
-        (λ s i _. zero-at 144 (i * 18 + earnedColumn s) ∙ sym (zero-padded (ltb i n) (earned s i)))
-        (λ s i j _ _. zero-at 144 (i * 18 + column 8 s j) ∙ sym (zero-padded (ltb i n) (zero-padded (ltb j n) (give s i j)))))
+        (tallies-are n p zeroTallies (length-replicate {A = ℕ} tallyPlaces 0)
+        (λ s i _. zero-at tallyPlaces (i * rowPlaces + earnedColumn s) ∙ sym (zero-padded (ltb i n) (earned s i)))
+        (λ s i j _ _. zero-at tallyPlaces (i * rowPlaces + column 8 s j) ∙ sym (zero-padded (ltb i n) (zero-padded (ltb j n) (give s i j)))))
 
     pub fresh-answer : 1 ≤ n → n ≤ 8 → freshAnswer n (p .floor) (p .top) shares ≡ 5 when not (openingLawful n p)
     unfolding freshAnswer

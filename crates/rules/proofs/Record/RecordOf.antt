@@ -14,7 +14,7 @@ use Rattle.rules.specs.Loops.{_and_, _or_, between}
 use Rattle.rules.specs.Refusals.{_when_, _orElse_}
 use Rattle.rules.specs.Pile.{Side, draw, tip, Pile, pileAnswer}
 use Rattle.rules.specs.Layout.{earnedColumn, column, rowOf}
-use Rattle.rules.specs.Record.{Record, recordView, recordAnswer, recordOf, padded, paddedRow, bothZero, unusedShares, unusedPlaces}
+use Rattle.rules.specs.Record.{Record, recordView, recordAnswer, recordOf, padded, paddedRow, bothZero, unusedShares, unusedPlaces, rowPlaces, sharePlaces, tallyPlaces}
 use Rattle.rules.proofs.Loops.Logic.{and-both, and-true}
 use Rattle.rules.proofs.Loops.Every.{every-all}
 use Rattle.rules.proofs.Loops.Pieces.{length-flat, getD-flat, length-list}
@@ -49,22 +49,22 @@ module _ (n : ℕ) (p : Pile) where
   abbrev gives : ℕ → Side → ℕ → ℕ
   gives i s j = padded n (λ k. padded n (p .give s k) j) i
 
-  length-padded : (i : ℕ) → length (paddedRow n p i) ≡ 18
+  length-padded : (i : ℕ) → length (paddedRow n p i) ≡ rowPlaces
   unfolding paddedRow rowOf
   length-padded i = length-row 8 (padded n (p .earned draw) i) (padded n (p .earned tip) i) (gives i)
 
   -- what the flat arrays hold at each place, used or not
-  pub row-place : (i c : ℕ) → i < 8 → c < 18 → getD (recordOf n p .tallies) (i * 18 + c) 0 ≡ getD (paddedRow n p i) c 0
+  pub row-place : (i c : ℕ) → i < 8 → c < rowPlaces → getD (recordOf n p .tallies) (i * rowPlaces + c) 0 ≡ getD (paddedRow n p i) c 0
   unfolding recordOf
-  row-place i c = getD-flat 8 18 (paddedRow n p) 0 (λ i _. length-padded i) i c
+  row-place i c = getD-flat 8 rowPlaces (paddedRow n p) 0 (λ i _. length-padded i) i c
 
-  pub length-shares : length (recordOf n p .shares) ≡ 16
+  pub length-shares : length (recordOf n p .shares) ≡ sharePlaces
   unfolding recordOf
   length-shares = simp (length-append, length-list)
 
-  pub length-tallies : length (recordOf n p .tallies) ≡ 144
+  pub length-tallies : length (recordOf n p .tallies) ≡ tallyPlaces
   unfolding recordOf
-  length-tallies = length-flat 8 18 (paddedRow n p) (λ i _. length-padded i)
+  length-tallies = length-flat 8 rowPlaces (paddedRow n p) (λ i _. length-padded i)
 
   pub share-place : (s : Side) (j : ℕ) → j < 8 → recordView (recordOf n p) .share s j ≡ padded n (p .share s) j
   unfolding recordOf rowOf
@@ -82,7 +82,7 @@ module _ (n : ℕ) (p : Pile) where
       ∙ row-column 8 (padded n (p .earned draw) i) (padded n (p .earned tip) i) (gives i) s j m
 
   -- arrays with these numbers at their places are the record's
-  pub shares-are : (l : List ℕ) → length l ≡ 16 → ((s : Side) (j : ℕ) → j < 8 → getD (p .floor ∷ p .top ∷ l) (column 8 s j) 0 ≡ padded n (p .share s) j)
+  pub shares-are : (l : List ℕ) → length l ≡ sharePlaces → ((s : Side) (j : ℕ) → j < 8 → getD (p .floor ∷ p .top ∷ l) (column 8 s j) 0 ≡ padded n (p .share s) j)
       → l ≡ recordOf n p .shares
   unfolding recordOf
   shares-are l len at =
@@ -90,16 +90,16 @@ module _ (n : ℕ) (p : Pile) where
       by-column 8 (λ c. 2 ≤ c → getD (p .floor ∷ p .top ∷ l) c 0 ≡ getD (p .floor ∷ p .top ∷ recordOf n p .shares) c 0)
       (λ z. absurd (omega arith)) (λ z. absurd (omega arith)) (λ s j j<8 _. at s j j<8 ∙ sym (share-place s j j<8)) (suc (suc k)) (omega arith) (omega arith))
 
-  pub tallies-are : (l : List ℕ) → length l ≡ 144 → ((s : Side) (i : ℕ) → i < 8 → getD l (i * 18 + earnedColumn s) 0 ≡ padded n (p .earned s) i)
-      → ((s : Side) (i j : ℕ) → i < 8 → j < 8 → getD l (i * 18 + column 8 s j) 0 ≡ padded n (λ k. padded n (p .give s k) j) i)
+  pub tallies-are : (l : List ℕ) → length l ≡ tallyPlaces → ((s : Side) (i : ℕ) → i < 8 → getD l (i * rowPlaces + earnedColumn s) 0 ≡ padded n (p .earned s) i)
+      → ((s : Side) (i j : ℕ) → i < 8 → j < 8 → getD l (i * rowPlaces + column 8 s j) 0 ≡ padded n (λ k. padded n (p .give s k) j) i)
       → l ≡ recordOf n p .tallies
   tallies-are l len earned give =
       ext-getD 0 l _ (len ∙ sym length-tallies) (λ k k<l.
-      let i<8 : k / 18 < 8 = div-lt-iff-lt-mul (lit< tt) .1 (omega arith) in
-      subst (λ (q : ℕ). getD l q 0 ≡ getD (recordOf n p .tallies) q 0) (div-add-mod' k 18)
-      (by-column 8 (λ c. getD l (k / 18 * 18 + c) 0 ≡ getD (recordOf n p .tallies) (k / 18 * 18 + c) 0)
-      (earned draw (k / 18) i<8 ∙ sym (earned-place draw (k / 18) i<8)) (earned tip (k / 18) i<8 ∙ sym (earned-place tip (k / 18) i<8))
-      (λ s j j<8. give s (k / 18) j i<8 j<8 ∙ sym (give-place s (k / 18) j i<8 j<8)) (k % 18) (mod-lt k (lit< tt))))
+      let i<8 : k / rowPlaces < 8 = div-lt-iff-lt-mul (lit< tt) .1 (omega arith) in
+      subst (λ (q : ℕ). getD l q 0 ≡ getD (recordOf n p .tallies) q 0) (div-add-mod' k rowPlaces)
+      (by-column 8 (λ c. getD l (k / rowPlaces * rowPlaces + c) 0 ≡ getD (recordOf n p .tallies) (k / rowPlaces * rowPlaces + c) 0)
+      (earned draw (k / rowPlaces) i<8 ∙ sym (earned-place draw (k / rowPlaces) i<8)) (earned tip (k / rowPlaces) i<8 ∙ sym (earned-place tip (k / rowPlaces) i<8))
+      (λ s j j<8. give s (k / rowPlaces) j i<8 j<8 ∙ sym (give-place s (k / rowPlaces) j i<8 j<8)) (k % rowPlaces) (mod-lt k (lit< tt))))
 
   unused-shares : unusedShares n (recordView (recordOf n p)) ≡ true
   unfolding unusedShares

@@ -15,10 +15,10 @@ use borrow.Author.Tests.{eqb-true, eq-eqb, ne-eqb}
 use Rattle.rules.specs.Loops.{index}
 use Rattle.rules.specs.Numbers.{number, part}
 use Rattle.rules.specs.Pile.{Pile, pileAnswer}
-use Rattle.rules.specs.Layout.{bodyLength, bodyAt, bookLength, column, bodyView, desks, piles, pileNumber, position, pileOf, bodyBytes}
+use Rattle.rules.specs.Layout.{bodyLength, bodyAt, bookLength, column, bodyView, desks, piles, pileNumber, position, pileOf, bodyBytes, entryAt, positionAt, frontLength}
 use Rattle.rules.specs.Opening.{rising}
 use Rattle.rules.specs.Book.{bookAnswer, place, absent, fetchAnswer}
-use Rattle.rules.specs.Record.{Record, recordView, recordAnswer, recordOf, padded, unusedShares, unusedPlaces, fetched, storeAnswer, afterStore}
+use Rattle.rules.specs.Record.{Record, recordView, recordAnswer, recordOf, padded, unusedShares, unusedPlaces, fetched, storeAnswer, afterStore, sharePlaces, tallyPlaces}
 use Rattle.rules.proofs.Loops.Logic.{and-left, and-right, and-both}
 use Rattle.rules.proofs.Loops.Every.{index-cong}
 use Rattle.rules.proofs.Loops.Refusals.{when-not-done, not-met, none-met, orElse-first, orElse-rest, when-accepted}
@@ -103,7 +103,7 @@ module _ (r : Record) (passed : recordAnswer r ≡ 0) where
   unfolding recordAnswer
   places-unused = and-right _ _ (when-not-done _ _ (orElse-first _ _ (orElse-rest _ _ (orElse-rest _ _ passed))))
 
-  pub record-of-agreeing : length (r .shares) ≡ 16 → length (r .tallies) ≡ 144 → (p : Pile) → Agree (r .n) p (recordView r) → recordOf (r .n) p ≡ r
+  pub record-of-agreeing : length (r .shares) ≡ sharePlaces → length (r .tallies) ≡ tallyPlaces → (p : Pile) → Agree (r .n) p (recordView r) → recordOf (r .n) p ≡ r
   unfolding recordOf
   record-of-agreeing shares tallies p a =
       λ x. record { n = r .n; floor = a .floor x; top = a .top x; shares = sym shares-same x; tallies = sym tallies-same x }
@@ -146,11 +146,11 @@ module _ (b : List ℕ) (k : ℕ) (q : Pile) (h : Stores b k q) where
       getD-sets-other b (bodyOf k) (bodyBytes (desks b) q) x
       (⊎-elim (λ l. inl l) (λ l. inr (omega (arith, length-body (desks b) q))) away)
 
-  front : (x : ℕ) → x < 4 + piles b * 6 → getD written x 0 ≡ getD b x 0
+  front : (x : ℕ) → x < frontLength (piles b) → getD written x 0 ≡ getD b x 0
   unfolding bodyAt
   front x l = beside x (inl (omega arith))
 
-  front-number : (w x : ℕ) → x + w ≤ 4 + piles b * 6 → number w written x ≡ number w b x
+  front-number : (w x : ℕ) → x + w ≤ frontLength (piles b) → number w written x ≡ number w b x
   front-number w x l = number-cong w written b x x (λ j j<w. front (x + j) (omega arith))
 
   -- the body itself, and each other body
@@ -193,7 +193,7 @@ module _ (b : List ℕ) (k : ℕ) (q : Pile) (h : Stores b k q) where
 
   same-numbers : (k′ : ℕ) → k′ < piles b → pileNumber written k′ ≡ pileNumber b k′
   unfolding pileNumber
-  same-numbers k′ l = front-number 2 (4 + k′ * 6) (omega arith)
+  same-numbers k′ l = front-number 2 (entryAt k′) (omega arith)
 
   as-body : (k′ : ℕ) → pileOf written k′ ≡ bodyView (desks b) written (bodyOf k′)
   unfolding pileOf
@@ -213,7 +213,7 @@ module _ (b : List ℕ) (k : ℕ) (q : Pile) (h : Stores b k q) where
         sized = length-written ∙ h .book .sized ∙ sym (ap₂ bookLength same-desks same-piles);
         rises = ap (λ (p : ℕ). rising p (pileNumber written)) same-piles ∙ rising-cong (piles b) _ _ same-numbers ∙ h .book .rises;
         placed = λ k′ l. let l′ : k′ < piles b = omega (arith, same-piles) in
-            front-number 4 (6 + k′ * 6) (omega arith) ∙ h .book .placed k′ l′ ∙ sym (ap₂ (λ (n p : ℕ). bodyAt n p k′) same-desks same-piles);
+            front-number 4 (positionAt k′) (omega arith) ∙ h .book .placed k′ l′ ∙ sym (ap₂ (λ (n p : ℕ). bodyAt n p k′) same-desks same-piles);
         bodies = λ k′ l. ap₂ pileAnswer same-desks (as-body k′) ∙ bodies-lawful k′ (omega (arith, same-piles));
       }
 
@@ -237,7 +237,7 @@ module _ (b : List ℕ) (k : ℕ) (q : Pile) (h : Stores b k q) where
         ∙ ap₂ recordOf same-desks (ap (pileOf written) stored-place ∙ as-body k)
 
 -- a stored pile is fetched unaltered
-module _ (b : List ℕ) (number : ℕ) (r : Record) (o : Octets b) (shares : length (r .shares) ≡ 16) (tallies : length (r .tallies) ≡ 144)
+module _ (b : List ℕ) (number : ℕ) (r : Record) (o : Octets b) (shares : length (r .shares) ≡ sharePlaces) (tallies : length (r .tallies) ≡ tallyPlaces)
     (stored : storeAnswer b number r ≡ 0) where
   found : fetchAnswer b number ≡ 0
   unfolding storeAnswer

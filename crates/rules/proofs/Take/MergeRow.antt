@@ -10,7 +10,7 @@ use lib.ListN.{getD}
 use lib.Seq.{ext-getD}
 use Rattle.rules.specs.Numbers.{encode}
 use Rattle.rules.specs.Pile.{Side, draw, tip, Pile}
-use Rattle.rules.specs.Layout.{deskLimit, rowOf, bodyRow}
+use Rattle.rules.specs.Layout.{deskLimit, rowOf, bodyRow, columns}
 use Rattle.rules.specs.Rows.{later, split, numbersOf, places, laterRow}
 use Rattle.rules.proofs.Loops.Logic.{decided}
 use Rattle.rules.proofs.File.Body.{Fits, by-column, row-column, length-numbers, length-body-row}
@@ -24,7 +24,7 @@ pub record RowLe (n : ℕ) (q p : Pile) (i : ℕ) : Type 0 where
 
 module _ (n i : ℕ) (1≤n : 1 ≤ n) (n≤8 : n ≤ deskLimit) (i<n : i < n) where
   numbers-le : (p q : Pile) → Fits n p → Fits n q → RowLe n q p i
-      → (c : ℕ) → c < 2 + (n + n) → numbersOf (row n q i) c ≤ numbersOf (row n p i) c
+      → (c : ℕ) → c < columns n → numbersOf (row n q i) c ≤ numbersOf (row n p i) c
   unfolding bodyRow rowOf
   numbers-le p q f g h c l =
       rw (row-numbers n p i f i<n c l, row-numbers n q i g i<n c l)
@@ -36,7 +36,7 @@ module _ (n i : ℕ) (1≤n : 1 ≤ n) (n≤8 : n ≤ deskLimit) (i<n : i < n) w
       c l)
 
   module _ (p q : Pile) (f : Fits n p) (g : Fits n q) where
-    within : {c : ℕ} → c < places (row n p i) → c < 2 + (n + n)
+    within : {c : ℕ} → c < places (row n p i) → c < columns n
     within {c} l = subst (λ (w : ℕ). c < w) (row-places n p i) l
 
     pub no-split : RowLe n q p i ⊎ RowLe n p q i → split (places (row n p i)) (numbersOf (row n p i)) (numbersOf (row n q i)) ≡ false
@@ -61,10 +61,10 @@ module _ (n i : ℕ) (1≤n : 1 ≤ n) (n≤8 : n ≤ deskLimit) (i<n : i < n) w
     same-row h e =
         ap encode
         (ext-getD 0 (bodyRow n p (suc i)) (bodyRow n q (suc i)) (length-numbers n p (suc i) ∙ sym (length-numbers n q (suc i)))
-        (λ c l. let l′ : c < 2 + (n + n) = subst (λ (w : ℕ). c < w) (length-numbers n p (suc i)) l in
+        (λ c l. let l′ : c < columns n = subst (λ (w : ℕ). c < w) (length-numbers n p (suc i)) l in
         sym (row-numbers n p i f i<n c l′) ∙ number c l′ ∙ row-numbers n q i g i<n c l′))
       where
-        number : (c : ℕ) → c < 2 + (n + n) → numbersOf (row n p i) c ≡ numbersOf (row n q i) c
+        number : (c : ℕ) → c < columns n → numbersOf (row n p i) c ≡ numbersOf (row n q i) c
         number c l =
             by-cases (decLt (numbersOf (row n p i) c) (numbersOf (row n q i) c))
             (λ d. absurd (true≢false (sym (later-all _ _ _ (λ c l. numbers-le q p g f h c (within l)) c

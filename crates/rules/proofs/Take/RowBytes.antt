@@ -11,7 +11,7 @@ use lib.Dec.{eqb}
 use borrow.Author.Tests.{eq-eqb}
 use Rattle.rules.specs.Numbers.{encode, part}
 use Rattle.rules.specs.Pile.{draw, tip, Pile}
-use Rattle.rules.specs.Layout.{deskLimit, rowLength, bodyAt, cellAt, rowOf, bodyRow, bodyBytes, bookBytes}
+use Rattle.rules.specs.Layout.{deskLimit, rowLength, bodyAt, cellAt, rowOf, bodyRow, bodyBytes, bookBytes, columns}
 use Rattle.rules.specs.Rows.{numbersOf, places, isRowLength}
 use Rattle.rules.specs.Take.{rowPart}
 use Rattle.rules.proofs.Loops.Every.{some-at}
@@ -34,16 +34,16 @@ module _ (n : ℕ) (p : Pile) (i : ℕ) where
   abbrev pub row : List ℕ
   row = encode (bodyRow n p (suc i))
 
-  pub row-places : places row ≡ 2 + (n + n)
+  pub row-places : places row ≡ columns n
   row-places = omega (arith, length-body-row n p (suc i), row-length n)
 
-  row-fits : Fits n p → i < n → (c : ℕ) → c < 2 + (n + n) → Fits4 (getD (bodyRow n p (suc i)) c 0)
+  row-fits : Fits n p → i < n → (c : ℕ) → c < columns n → Fits4 (getD (bodyRow n p (suc i)) c 0)
   unfolding bodyRow rowOf
   row-fits f l =
       by-column n (λ c. Fits4 (getD (bodyRow n p (suc i)) c 0)) (f .earned draw i l) (f .earned tip i l)
       (λ s j m. rw (row-column n (p .earned draw i) (p .earned tip i) (λ s. p .give s i) s j m) (f .give s i j l m))
 
-  pub row-numbers : Fits n p → i < n → (c : ℕ) → c < 2 + (n + n) → numbersOf row c ≡ getD (bodyRow n p (suc i)) c 0
+  pub row-numbers : Fits n p → i < n → (c : ℕ) → c < columns n → numbersOf row c ≡ getD (bodyRow n p (suc i)) c 0
   row-numbers f l c m = number-encode (bodyRow n p (suc i)) c (omega (arith, length-numbers n p (suc i))) (row-fits f l c m)
 
   pub row-is-row : 1 ≤ n → n ≤ deskLimit → isRowLength (length row) ≡ true

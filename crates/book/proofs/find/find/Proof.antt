@@ -6,7 +6,7 @@ use Rattle.rules.specs.Book.{bookAnswer, place}
 use Rattle.rules.proofs.File.Readable.{BookFacts, book-facts}
 use borrow.Author.Needs.{needs}
 use Rattle.book.proofs.Lengths.{contents-within}
-use Rattle.book.proofs.Numbers.{desk-own, desk-11, desk-10, desk-0}
+use Rattle.book.proofs.BookLines.{desk-own, desk-11, desk-10, desk-0}
 use Rattle.book.proofs.find.find.Statement.{statement}
 use Rattle.book.proofs.find.find.Tie as tie
 
@@ -15,16 +15,16 @@ abbrev start : tie.Else1 → tie.Start
 start c = c .before .before .before
 
 passed : (c : tie.Else1) → bookAnswer (start c .args .book .now) ≡ 0
-passed c = sym (c .before .book-number .ensures) ∙ c .if1 .left
+passed c = sym (c .before .book-answer .ensures) ∙ c .if1 .left
 
 abbrev facts : (c : tie.Else1) → BookFacts (start c .args .book .now)
 facts c = book-facts _ (passed c)
 
-book-number-requires : tie.Need-book-number-requires
-book-number-requires c κs = search needs
+book-answer-requires : tie.Need-book-answer-requires
+book-answer-requires c κs = search needs
 
 returns : tie.Need-returns
-returns c = (desk-own _ _ _ _ (c .before .book-number .ensures) (c .if1 .taken), λ z. absurd (c .if1 .taken z))
+returns c = (desk-own _ _ _ _ (c .before .book-answer .ensures) (c .if1 .taken), λ z. absurd (c .if1 .taken z))
 
 shared-slice-read-if2 : tie.Need-shared-slice-read-if2
 shared-slice-read-if2 c = search (needs, facts (c .before) .long)
@@ -58,7 +58,7 @@ pub find-spec : {M : Type 1} → statement M
 find-spec =
     tie.close
     (tie.spec
-    book-number-requires
+    book-answer-requires
     returns
     shared-slice-read-if2
     returns-2

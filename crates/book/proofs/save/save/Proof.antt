@@ -6,6 +6,7 @@ use mathlib.Core.Path.{_≡_}
 use lib.ListN.{length}
 use Rattle.rules.specs.Layout.{rowLength}
 use Rattle.pile.specs.View.{asRecord}
+use Rattle.rules.specs.Record.{sharePlaces}
 use Rattle.book.proofs.Saved.{body-room, put-body}
 use borrow.Author.Needs.{needs}
 use Rattle.book.proofs.save.save.Statement.{statement}
@@ -29,7 +30,7 @@ room : (c : tie.Start) → c .args .at + (8 * (c .args .n + 1) + c .args .n * ro
 room c = rw (body-room (c .args .n)) (c .pre .1)
 
 shares : (c : tie.Start) → 8 + c .args .n ≤ length (c .args .pile .shares)
-shares c = let l : length (c .args .pile .shares) ≡ 16 = search needs in omega arith
+shares c = let l : length (c .args .pile .shares) ≡ sharePlaces = search needs in omega arith
 
 slice-aggregate-put-run : tie.Need-slice-aggregate-put-run
 slice-aggregate-put-run c = search needs

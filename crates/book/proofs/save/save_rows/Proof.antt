@@ -14,11 +14,11 @@ use Rattle.book.proofs.save.save_rows.Statement.{statement}
 use Rattle.book.proofs.save.save_rows.Tie as tie
 
 abbrev Inv-loop : tie.InvT-loop
-Inv-loop book₀ at n tallies row i₀ book i =
+Inv-loop book₀ n at tallies row i₀ book i =
     (i ≤ n) × (length book ≡ length book₀) × (book ≡ sets book₀ at (flat i (λ k. encode (tallyRow n tallies k))))
 
 abbrev μ-loop : tie.MeasureT-loop
-μ-loop book₀ at n tallies row i₀ book i = n - i
+μ-loop book₀ n at tallies row i₀ book i = n - i
 
 abbrev start : tie.At-loop Inv-loop μ-loop → tie.Start Inv-loop μ-loop
 start c = c .before .before .before

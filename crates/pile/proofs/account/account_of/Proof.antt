@@ -1,4 +1,4 @@
--- `account_of` goes over the rows of the side, and stops at the first that is not right. Each row adds to its receivers' credit, and sets its
+-- `account_of` goes over the rows of the side, and stops at the first that is not sound. Each row adds to its receivers' credit, and sets its
 -- desk's debit.
 -- Assumes nothing.
 use Prim.Native.Nat.{ℕ, _+_, _-_, _*_, _≤_, _<_}
@@ -13,22 +13,23 @@ use borrow.Author.Tests.{lt-leb, le-leb, eqb-true, not-false}
 use Rattle.rules.specs.Loops.{sum, every}
 use Rattle.rules.proofs.Loops.Logic.{holds, fails, and-left-fails, and-right-fails, and-both}
 use Rattle.rules.proofs.Loops.Every.{every-at, every-next, every-stops}
-use Rattle.pile.specs.Account.{shareOf, earnedBy, spentBy, givenBy, rowRight, Accounted}
+use Rattle.pile.specs.Account.{shareOf, earnedBy, spentBy, givenBy, rowSound, Accounted}
+use Rattle.rules.specs.Record.{rowPlaces}
 use Rattle.pile.proofs.Arrays.{sum-past, set-next, set-at-most}
 use Rattle.pile.proofs.Credits.{added, credit-step, credit-all}
 use borrow.Author.Needs.{needs}
 use Rattle.pile.proofs.account.account_of.Statement.{statement}
 use Rattle.pile.proofs.account.account_of.Tie as tie
 
--- at a row that is not right the side is not
-stopped : {shares tallies : List ℕ} {side n total : ℕ} {credit debit : List ℕ} → total ≡ sum n (shareOf shares tallies side)
-    → total ≤ 34359738368 → (i : ℕ) → i < n
-    → rowRight shares tallies side n i ≡ false → Accounted shares tallies side n false total credit debit
+-- at a row that is not sound the side is not
+stopped : {shares tallies : List ℕ} {side n shareSum : ℕ} {credit debit : List ℕ} → shareSum ≡ sum n (shareOf shares tallies side)
+    → shareSum ≤ 34359738368 → (i : ℕ) → i < n
+    → rowSound shares tallies side n i ≡ false → Accounted shares tallies side n false shareSum credit debit
 stopped s m i l e =
     record {
       shares-sum = s;
       shares-most = m;
-      rows-right = sym (every-stops _ _ i l e);
+      rows-sound = sym (every-stops _ _ i l e);
       credits = λ t. absurd (false≢true t);
       debits = λ t. absurd (false≢true t);
       credits-most = λ t. absurd (false≢true t);
@@ -43,16 +44,16 @@ gives-used tallies at n n≤8 e =
     ∙ sum-past n (8 - n) _ (λ k l. ap (λ (q : ℕ). getD tallies q 0) (sym (add-assoc at n k)) ∙ eqb-true _ _ (every-at (8 - n) _ e k l))
 
 abbrev Inv-loop : tie.InvT-loop
-Inv-loop shares tallies side n total credit₀ debit₀ i₀ credit debit i =
-    (i ≤ n) × (length credit ≡ 8) × (length debit ≡ 8) × (total ≡ sum n (shareOf shares tallies side)) × (total ≤ 34359738368)
-    × (every i (rowRight shares tallies side n) ≡ true)
+Inv-loop shares tallies side n shareSum credit₀ debit₀ i₀ credit debit i =
+    (i ≤ n) × (length credit ≡ 8) × (length debit ≡ 8) × (shareSum ≡ sum n (shareOf shares tallies side)) × (shareSum ≤ 34359738368)
+    × (every i (rowSound shares tallies side n) ≡ true)
     × ((k : ℕ) → k < n
     → getD credit k 0 ≡ shareOf shares tallies side k + sum i (added (givenBy shares tallies side) (earnedBy shares tallies side) k))
     × ((k : ℕ) → k < 8 → getD credit k 0 ≤ 4294967296 + i * 2000000000)
     × ((k : ℕ) → k < i → getD debit k 0 ≡ sum n (givenBy shares tallies side k) + spentBy shares tallies side k)
 
 abbrev μ-loop : tie.MeasureT-loop
-μ-loop shares tallies side n total credit₀ debit₀ i₀ credit debit i = n - i
+μ-loop shares tallies side n shareSum credit₀ debit₀ i₀ credit debit i = n - i
 
 -- from a row that is not refused, the loop's head and the entry
 abbrev start : tie.At-loop Inv-loop μ-loop → tie.Start Inv-loop μ-loop
@@ -98,7 +99,7 @@ wide-requires : tie.Need-wide-requires Inv-loop μ-loop
 wide-requires c κs = search needs
 
 returns : tie.Need-returns Inv-loop μ-loop
-unfolding rowRight
+unfolding rowSound
 returns c =
     let at = c .before .before .before .before in
     let args = start at .args in
@@ -123,7 +124,7 @@ credit-gives-requires c κs =
     (omega arith, omega arith, λ k l. omega (arith, loop .inv .7 k l))
 
 returns-2 : tie.Need-returns-2 Inv-loop μ-loop
-unfolding rowRight
+unfolding rowSound
 returns-2 c =
     let loop = c .before .before .before .before .before .before .loop in
     stopped (loop .inv .3) (loop .inv .4) (loop .i) (search needs)
@@ -139,7 +140,7 @@ all-zero-requires : tie.Need-all-zero-requires Inv-loop μ-loop
 all-zero-requires c κs = search needs
 
 returns-3 : tie.Need-returns-3 Inv-loop μ-loop
-unfolding rowRight
+unfolding rowSound
 returns-3 c =
     let loop = head (c .before .before) .loop in
     stopped (loop .inv .3) (loop .inv .4) (loop .i) (search needs)
@@ -201,7 +202,7 @@ loop-less : tie.Need-loop-less Inv-loop μ-loop
 loop-less c = search needs
 
 loop-again : tie.Need-loop-again Inv-loop μ-loop
-unfolding rowRight
+unfolding rowSound
 loop-again c =
     let three = c .before .before .before .before in
     let two = three .before .before in
@@ -218,7 +219,7 @@ loop-again c =
     let i<8 : loop .i < 8 = omega (arith, entry .pre .1) in
     let unused = holds (three .before .all-zero .ensures) (three .if3 .left) in
     let used : sum 8 (givenBy S T σ (loop .i)) ≡ sum (args .n) (givenBy S T σ (loop .i))
-    = gives-used T (loop .i * 18 + (2 + 8 * σ)) (args .n) (omega (arith, entry .pre .1)) unused in
+    = gives-used T (loop .i * rowPlaces + (2 + 8 * σ)) (args .n) (omega (arith, entry .pre .1)) unused in
     let stored : getD (row .result .credit) (loop .i) 0 + earned .result ≤ 4294967296 + (loop .i + 1) * 2000000000
     = omega (arith, loop .inv .7 (loop .i) (omega arith), gives .2 (loop .i) (omega arith)) in (
       search needs,
@@ -247,7 +248,7 @@ returns-4 c =
     record {
       shares-sum = loop .inv .3;
       shares-most = loop .inv .4;
-      rows-right = sym (rw done at (loop .inv .5));
+      rows-sound = sym (rw done at (loop .inv .5));
       credits = λ _ k l. rw done at (loop .inv .6 k l)
           ∙ ap (λ (x : ℕ). shareOf S T σ k + x) (credit-all (givenBy S T σ) (earnedBy S T σ) (args .n) k l) ∙ sym (add-assoc _ _ _);
       debits = λ _ k l. loop .inv .8 k (omega arith);

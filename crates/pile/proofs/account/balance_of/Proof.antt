@@ -16,14 +16,14 @@ use Rattle.pile.proofs.account.balance_of.Statement.{statement}
 use Rattle.pile.proofs.account.balance_of.Tie as tie
 
 abbrev Inv-loop : tie.InvT-loop
-Inv-loop n credit debit rights₀ total₀ i₀ rights total i =
-    (i ≤ n) × (length rights ≡ 8) × (total ≤ i * 1000000000000)
+Inv-loop n credit debit rights₀ all₀ i₀ rights all i =
+    (i ≤ n) × (length rights ≡ 8) × (all ≤ i * 1000000000000)
     × (every i (λ k. leb (getD debit k 0) (getD credit k 0)) ≡ true)
-    × (total ≡ sum i (λ k. getD credit k 0 - getD debit k 0))
+    × (all ≡ sum i (λ k. getD credit k 0 - getD debit k 0))
     × ((k : ℕ) → k < i → getD rights k 0 ≡ getD credit k 0 - getD debit k 0)
 
 abbrev μ-loop : tie.MeasureT-loop
-μ-loop n credit debit rights₀ total₀ i₀ rights total i = n - i
+μ-loop n credit debit rights₀ all₀ i₀ rights all i = n - i
 
 -- from the loop's head, the entry
 abbrev start : tie.At-loop Inv-loop μ-loop → tie.Start Inv-loop μ-loop
@@ -49,8 +49,8 @@ returns : tie.Need-returns Inv-loop μ-loop
 returns c =
     record {
       lawful-is = sym (every-stops _ _ (c .before .before .loop .i) (search needs) (lt-leb _ _ (c .if1 .taken)));
-      total-is = λ t. absurd (false≢true t);
-      total-most = omega (arith, start (c .before .before) .pre .0);
+      all-is = λ t. absurd (false≢true t);
+      all-most = omega (arith, start (c .before .before) .pre .0);
       rights-are = λ t. absurd (false≢true t);
     }
 
@@ -75,8 +75,8 @@ mul-rights c = search needs
 array-write-rights : tie.Need-array-write-rights Inv-loop μ-loop
 array-write-rights c = search needs
 
-add-total : tie.Need-add-total Inv-loop μ-loop
-add-total c =
+add-all : tie.Need-add-all Inv-loop μ-loop
+add-all c =
     let at = c .before .before in
     omega (arith, start at .pre .0, start at .pre .1 (at .loop .i) (omega arith))
 
@@ -105,8 +105,8 @@ returns-2 c =
     let done : loop .i ≡ start (c .before) .args .n = omega arith in
     record {
       lawful-is = sym (rw done at (loop .inv .3));
-      total-is = λ _. rw done at (loop .inv .4);
-      total-most = omega (arith, start (c .before) .pre .0);
+      all-is = λ _. rw done at (loop .inv .4);
+      all-most = omega (arith, start (c .before) .pre .0);
       rights-are = λ _ k l. loop .inv .5 k (omega arith);
     }
 
@@ -129,7 +129,7 @@ balance-of-spec =
     sub-left
     mul-rights
     array-write-rights
-    add-total
+    add-all
     add-i
     loop-less
     loop-again

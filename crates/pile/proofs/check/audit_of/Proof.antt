@@ -14,7 +14,7 @@ use Rattle.pile.proofs.Verdict.{in-range, refused-2, refused-5, refused
 
 -- The places that the last test comes from: n is in range, each side has its account, and the tests of 5 and of 6 hold.
 range : (c : tie.Else1) → between 1 deskLimit (c .before .before .args .p .n) ≡ true
-range c = holds (c .before .desks-right .ensures) (c .if1 .left)
+range c = holds (c .before .desks-in-range .ensures) (c .if1 .left)
 
 abbrev ranged : tie.After-account-of → tie.Else1
 ranged c = c .before .before .before .before .before .before
@@ -22,20 +22,20 @@ ranged c = c .before .before .before .before .before .before
 abbrev drawn : tie.After-account-of2 → tie.After-account-of
 drawn c = c .before .before .before
 
-abbrev accounts : tie.After-opening-right → tie.After-account-of2
+abbrev accounts : tie.After-opening-sound → tie.After-account-of2
 accounts c = c .before .before .before .before
 
-abbrev opened : tie.After-tallies-right → tie.Else2
+abbrev opened : tie.After-tallies-sound → tie.Else2
 opened c = c .before .before
 
-desks-right-requires : tie.Need-desks-right-requires
-desks-right-requires c κs = search needs
+desks-in-range-requires : tie.Need-desks-in-range-requires
+desks-in-range-requires c κs = search needs
 
 refused-requires : tie.Need-refused-requires
 refused-requires c κs = search needs
 
 returns : tie.Need-returns
-returns c = refused-2 _ (c .refused .ensures) (fails (c .before .before .desks-right .ensures) (c .before .if1 .taken))
+returns c = refused-2 _ (c .refused .ensures) (fails (c .before .before .desks-in-range .ensures) (c .before .if1 .taken))
 
 cast-n : tie.Need-cast-n
 cast-n c = search needs
@@ -60,14 +60,14 @@ account-of-requires-2 : tie.Need-account-of-requires-2
 account-of-requires-2 c κs =
     (search needs, in-range _ (range (ranged (c .before .before))) .1, search needs, search needs)
 
-slice-aggregate-opening-right : tie.Need-slice-aggregate-opening-right
-slice-aggregate-opening-right c = search needs
+slice-aggregate-opening-sound : tie.Need-slice-aggregate-opening-sound
+slice-aggregate-opening-sound c = search needs
 
-add-opening-right : tie.Need-add-opening-right
-add-opening-right c = search needs
+add-opening-sound : tie.Need-add-opening-sound
+add-opening-sound c = search needs
 
-opening-right-requires : tie.Need-opening-right-requires
-opening-right-requires c κs =
+opening-sound-requires : tie.Need-opening-sound-requires
+opening-sound-requires c κs =
     let one = ranged (drawn (c .before .before .before)) in (in-range _ (range one) .1, search (needs, one .before .before .good .0))
 
 refused-requires-2 : tie.Need-refused-requires-2
@@ -77,13 +77,13 @@ returns-2 : tie.Need-returns-2
 returns-2 c =
     let a = accounts (c .before .before) in
     refused-5 _ (range (ranged (drawn a))) (drawn a .account-of .ensures) (a .account-of2 .ensures) (c .refused2 .ensures)
-    (fails (c .before .before .opening-right .ensures) (c .before .if2 .taken))
+    (fails (c .before .before .opening-sound .ensures) (c .before .if2 .taken))
 
-slice-aggregate-tallies-right : tie.Need-slice-aggregate-tallies-right
-slice-aggregate-tallies-right c = search (needs, ranged (drawn (accounts (c .before .before))) .before .before .good .0)
+slice-aggregate-tallies-sound : tie.Need-slice-aggregate-tallies-sound
+slice-aggregate-tallies-sound c = search (needs, ranged (drawn (accounts (c .before .before))) .before .before .good .0)
 
-tallies-right-requires : tie.Need-tallies-right-requires
-tallies-right-requires c κs =
+tallies-sound-requires : tie.Need-tallies-sound-requires
+tallies-sound-requires c κs =
     let one = ranged (drawn (accounts (c .before .before))) in
     (in-range _ (range one) .1, search (needs, one .before .before .good .0))
 
@@ -95,12 +95,12 @@ returns-3 c =
     let o = opened (c .before .before) in
     let a = accounts (o .before) in
     refused-6 _ (range (ranged (drawn a))) (drawn a .account-of .ensures) (a .account-of2 .ensures) (c .refused3 .ensures)
-    (holds (o .before .opening-right .ensures) (o .if2 .left)) (fails (c .before .before .tallies-right .ensures) (c .before .if3 .taken))
+    (holds (o .before .opening-sound .ensures) (o .if2 .left)) (fails (c .before .before .tallies-sound .ensures) (c .before .if3 .taken))
 
 balance-of-requires : tie.Need-balance-of-requires
 balance-of-requires c κs =
     let a = accounts (opened (c .before) .before) in
-    (in-range _ (range (ranged (drawn a))) .1, drawn a .account-of .ensures .credits-most (and-left _ _ (holds (c .before .tallies-right .ensures) (c .if3 .left))))
+    (in-range _ (range (ranged (drawn a))) .1, drawn a .account-of .ensures .credits-most (and-left _ _ (holds (c .before .tallies-sound .ensures) (c .if3 .left))))
 
 refused-requires-4 : tie.Need-refused-requires-4
 refused-requires-4 c κs = search needs
@@ -112,14 +112,14 @@ returns-4 c =
     let o = opened (t .before) in
     let a = accounts (o .before) in
     refused-7 _ (range (ranged (drawn a))) (drawn a .account-of .ensures) (a .account-of2 .ensures) (c .refused4 .ensures)
-    (holds (o .before .opening-right .ensures) (o .if2 .left)) (holds (t .before .tallies-right .ensures) (t .if3 .left))
+    (holds (o .before .opening-sound .ensures) (o .if2 .left)) (holds (t .before .tallies-sound .ensures) (t .if3 .left))
     (and-left-fails (fails (b .balance-of .ensures .lawful-is) (c .before .if4 .taken)) _)
 
 balance-of-requires-2 : tie.Need-balance-of-requires-2
 balance-of-requires-2 c κs =
     let t = c .before .before in
     let a = accounts (opened (t .before) .before) in
-    (in-range _ (range (ranged (drawn a))) .1, a .account-of2 .ensures .credits-most (and-left _ _ (and-right _ _ (holds (t .before .tallies-right .ensures) (t .if3 .left)))))
+    (in-range _ (range (ranged (drawn a))) .1, a .account-of2 .ensures .credits-most (and-left _ _ (and-right _ _ (holds (t .before .tallies-sound .ensures) (t .if3 .left)))))
 
 refused-requires-5 : tie.Need-refused-requires-5
 refused-requires-5 c κs = search needs
@@ -131,7 +131,7 @@ returns-5 c =
     let o = opened (t .before) in
     let a = accounts (o .before) in
     refused-7 _ (range (ranged (drawn a))) (drawn a .account-of .ensures) (a .account-of2 .ensures) (c .refused5 .ensures)
-    (holds (o .before .opening-right .ensures) (o .if2 .left)) (holds (t .before .tallies-right .ensures) (t .if3 .left))
+    (holds (o .before .opening-sound .ensures) (o .if2 .left)) (holds (t .before .tallies-sound .ensures) (t .if3 .left))
     (and-right-fails _ (fails (b .balance-of2 .ensures .lawful-is) (c .before .if5 .taken)))
 
 wide-requires : tie.Need-wide-requires
@@ -148,7 +148,7 @@ returns-6 c =
     let o = opened (t .before) in
     let a = accounts (o .before) in
     accepted _ (range (ranged (drawn a))) (drawn a .account-of .ensures) (a .account-of2 .ensures)
-    (holds (o .before .opening-right .ensures) (o .if2 .left)) (holds (t .before .tallies-right .ensures) (t .if3 .left))
+    (holds (o .before .opening-sound .ensures) (o .if2 .left)) (holds (t .before .tallies-sound .ensures) (t .if3 .left))
     (four .before .balance-of .ensures) (not-false _ (four .if4 .left)) (five .before .balance-of2 .ensures) (not-false _ (five .if5 .left))
     (ap₂ _+_ (c .before .wide .ensures .0) refl)
 
@@ -156,7 +156,7 @@ pub audit-of-spec : {M : Type 1} → statement M
 audit-of-spec =
     tie.close
     (tie.spec
-    desks-right-requires
+    desks-in-range-requires
     refused-requires
     returns
     cast-n
@@ -166,13 +166,13 @@ audit-of-spec =
     slice-aggregate-account-of-3
     slice-aggregate-account-of-4
     account-of-requires-2
-    slice-aggregate-opening-right
-    add-opening-right
-    opening-right-requires
+    slice-aggregate-opening-sound
+    add-opening-sound
+    opening-sound-requires
     refused-requires-2
     returns-2
-    slice-aggregate-tallies-right
-    tallies-right-requires
+    slice-aggregate-tallies-sound
+    tallies-sound-requires
     refused-requires-3
     returns-3
     balance-of-requires

@@ -119,14 +119,14 @@ returns c =
     let done : loop .j ≡ 8 = omega arith in
     (sym (and-left-fails (sym (rw done at (loop .inv .4)) ∙ not-true _ (c .if2 .taken)) _), λ e. absurd (false≢true e))
 
-add-right : tie.Need-add-right Inv-loop μ-loop
-add-right c = search needs
+add-sound : tie.Need-add-sound Inv-loop μ-loop
+add-sound c = search needs
 
-mul-right : tie.Need-mul-right Inv-loop μ-loop
-mul-right c = search needs
+mul-sound : tie.Need-mul-sound Inv-loop μ-loop
+mul-sound c = search needs
 
-shared-slice-read-right : tie.Need-shared-slice-read-right Inv-loop μ-loop
-shared-slice-read-right c = search needs
+shared-slice-read-sound : tie.Need-shared-slice-read-sound Inv-loop μ-loop
+shared-slice-read-sound c = search needs
 
 returns-2 : tie.Need-returns-2 Inv-loop μ-loop
 returns-2 c =
@@ -164,7 +164,7 @@ credit-gives-spec =
     loop-less
     loop-again
     returns
-    add-right
-    mul-right
-    shared-slice-read-right
+    add-sound
+    mul-sound
+    shared-slice-read-sound
     returns-2)

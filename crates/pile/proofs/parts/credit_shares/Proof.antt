@@ -12,13 +12,13 @@ use Rattle.pile.proofs.parts.credit_shares.Statement.{statement}
 use Rattle.pile.proofs.parts.credit_shares.Tie as tie
 
 abbrev Inv-loop : tie.InvT-loop
-Inv-loop shares from n total₀ credit₀ j₀ total credit j =
-    (j ≤ n) × (length credit ≡ 8) × (total ≡ sum j (λ k. getD shares (from + k) 0)) × (total ≤ j * 4294967296)
+Inv-loop shares from n shareSum₀ credit₀ j₀ shareSum credit j =
+    (j ≤ n) × (length credit ≡ 8) × (shareSum ≡ sum j (λ k. getD shares (from + k) 0)) × (shareSum ≤ j * 4294967296)
     × ((k : ℕ) → k < j → getD credit k 0 ≡ getD shares (from + k) 0)
     × ((k : ℕ) → k < 8 → getD credit k 0 ≤ 4294967296)
 
 abbrev μ-loop : tie.MeasureT-loop
-μ-loop shares from n total₀ credit₀ j₀ total credit j = n - j
+μ-loop shares from n shareSum₀ credit₀ j₀ shareSum credit j = n - j
 
 loop-holds : tie.Need-loop-holds Inv-loop μ-loop
 unfolding sum
@@ -37,8 +37,8 @@ shared-slice-read-wide c = search needs
 wide-requires : tie.Need-wide-requires Inv-loop μ-loop
 wide-requires c κs = search needs
 
-add-total : tie.Need-add-total Inv-loop μ-loop
-add-total c = search needs
+add-sum : tie.Need-add-sum Inv-loop μ-loop
+add-sum c = search needs
 
 mul-credit : tie.Need-mul-credit Inv-loop μ-loop
 mul-credit c = search needs
@@ -81,7 +81,7 @@ credit-shares-spec =
     mul-wide
     shared-slice-read-wide
     wide-requires
-    add-total
+    add-sum
     mul-credit
     array-write-credit
     add-j

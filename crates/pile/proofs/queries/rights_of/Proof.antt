@@ -8,7 +8,7 @@ use mathlib.Core.Path.{_≡_, _∙_}
 use Rattle.rules.specs.Record.{recordAnswer}
 use Rattle.pile.specs.View.{asRecord, sideOf}
 use Rattle.pile.proofs.Audits.{passed, desks-most, left-most}
-use Rattle.pile.proofs.Answers.{rights-refused, rights-11, rights-value}
+use Rattle.pile.proofs.Replies.{rights-refused, rights-11, rights-value}
 
 -- The desk's rights are asked for where the audit has found nothing, and it is a desk of the record.
 abbrev audited : tie.Else2 → tie.Else1
@@ -21,7 +21,7 @@ audit-of-requires : tie.Need-audit-of-requires
 audit-of-requires c κs = search needs
 
 returns : tie.Need-returns
-returns c = rights-refused _ _ _ _ (c .before .audit-of .ensures .number-is) (c .if1 .taken)
+returns c = rights-refused _ _ _ _ (c .before .audit-of .ensures .answer-is) (c .if1 .taken)
 
 returns-2 : tie.Need-returns-2
 returns-2 c = rights-11 _ _ _ (passed (c .before .before .before .audit-of .ensures) (c .before .before .if1 .left)) (c .if2 .taken)

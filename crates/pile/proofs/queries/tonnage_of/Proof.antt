@@ -5,13 +5,13 @@ use Rattle.pile.proofs.queries.tonnage_of.Statement.{statement}
 use Rattle.pile.proofs.queries.tonnage_of.Tie as tie
 use native.Mathlib.Omega.{arith}
 use Rattle.pile.proofs.Audits.{passed, weight-most}
-use Rattle.pile.proofs.Answers.{tonnage-refused, tonnage-value}
+use Rattle.pile.proofs.Replies.{tonnage-refused, tonnage-value}
 
 audit-of-requires : tie.Need-audit-of-requires
 audit-of-requires c κs = search needs
 
 returns : tie.Need-returns
-returns c = tonnage-refused _ _ (c .before .audit-of .ensures .number-is) (c .if1 .taken)
+returns c = tonnage-refused _ _ (c .before .audit-of .ensures .answer-is) (c .if1 .taken)
 
 cast-t6 : tie.Need-cast-t6
 cast-t6 c = omega (arith, weight-most (c .before .audit-of .ensures) (c .if1 .left))

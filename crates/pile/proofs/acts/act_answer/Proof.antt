@@ -1,8 +1,8 @@
--- `act_number` asks the lines of the table in their order, with the rights that the audit found.
+-- `act_answer` asks the lines of the table in their order, with the rights that the audit found.
 -- Assumes nothing.
 use borrow.Author.Needs.{needs}
-use Rattle.pile.proofs.acts.act_number.Statement.{statement}
-use Rattle.pile.proofs.acts.act_number.Tie as tie
+use Rattle.pile.proofs.acts.act_answer.Statement.{statement}
+use Rattle.pile.proofs.acts.act_answer.Tie as tie
 use Prim.Native.Nat.{ℕ, _+_, _*_, _≤_, _<_}
 use native.Mathlib.Omega.{arith}
 use mathlib.Core.Path.{_≡_, _∙_}
@@ -10,10 +10,10 @@ use lib.ListN.{getD}
 use borrow.Author.Tests.{eq-eqb, ne-eqb, lt-ltb, le-ltb}
 use Rattle.rules.specs.Pile.{rights, tallyLimit}
 use Rattle.rules.specs.Acts.{Kind, side, tally}
-use Rattle.rules.specs.Record.{recordView, recordAnswer}
+use Rattle.rules.specs.Record.{recordView, recordAnswer, rowPlaces}
 use Rattle.rules.proofs.Loops.Logic.{or-first, or-second, or-neither}
 use Rattle.pile.specs.View.{asRecord, sideOf, Means}
-use Rattle.pile.proofs.ActNumber.{tally-at, own-number, number-11, number-12, number-13, Asked, number-14, number-15, number-0}
+use Rattle.pile.proofs.ActLines.{tally-at, own-answer, answer-11, answer-12, answer-13, Asked, answer-14, answer-15, answer-0}
 use Rattle.pile.proofs.Audits.{passed, desks-most}
 
 -- the arguments are those of an act of this kind
@@ -56,7 +56,7 @@ left c means =
     (c .rights-at .ensures
     ∙ own-passed (c .before) .before .audit-of .ensures .rights-are (own-passed (c .before) .if1 .left) (sideOf (start (c .before) .args .side)) _ (desk-passed (c .before) .if2 .left))
 
--- and the number read is the act's tally
+-- and the answer read is the act's tally
 abbrev past-rights : tie.Else6 → tie.Else5
 past-rights c = c .before .before .before
 
@@ -64,7 +64,7 @@ enough : (c : tie.Else6) → start (past-rights c) .args .amount ≤ c .before .
 enough c = omega (arith, c .if6 .left, c .before .wide .ensures .0)
 
 abbrev Tally : tie.Else6 → ℕ
-Tally c = let a = start (past-rights c) .args in getD (a .p .tallies) (a .desk * 18 + a .column) 0
+Tally c = let a = start (past-rights c) .args in getD (a .p .tallies) (a .desk * rowPlaces + a .column) 0
 
 tally-is : (c : tie.Else6) {kind : Kind} → MeansAt (start (past-rights c)) kind
     → tally (recordView (asRecord (start (past-rights c) .args .p))) (start (past-rights c) .args .desk) kind ≡ Tally c
@@ -76,24 +76,24 @@ audit-of-requires c κs = search needs
 
 returns : tie.Need-returns
 returns c =
-    (λ kind means. own-number _ _ kind _ _ (c .before .audit-of .ensures .number-is) (c .if1 .taken), λ z. absurd (c .if1 .taken z))
+    (λ kind means. own-answer _ _ kind _ _ (c .before .audit-of .ensures .answer-is) (c .if1 .taken), λ z. absurd (c .if1 .taken z))
 
 returns-2 : tie.Need-returns-2
-returns-2 c = (λ kind means. number-11 _ _ kind _ (own (c .before .before)) (c .if2 .taken), λ z. absurd (omega arith))
+returns-2 c = (λ kind means. answer-11 _ _ kind _ (own (c .before .before)) (c .if2 .taken), λ z. absurd (omega arith))
 
 returns-3 : tie.Need-returns-3
 returns-3 c =
-    (λ kind means. number-12 _ _ kind _ (own (c .before .before .before)) (c .before .if2 .left) (means .receiver-is ∙ c .if3 .taken), λ z. absurd (omega arith))
+    (λ kind means. answer-12 _ _ kind _ (own (c .before .before .before)) (c .before .if2 .left) (means .receiver-is ∙ c .if3 .taken), λ z. absurd (omega arith))
 
 returns-4 : tie.Need-returns-4
 returns-4 c =
     let desk = c .before .before in
-    (λ kind means. number-13 _ _ kind _ (own (desk .before .before)) (desk .if2 .left) (means .receiver-is ∙ c .before .if3 .left) (or-first (eq-eqb _ 0 (c .if4 .taken)) _), λ z. absurd (omega arith))
+    (λ kind means. answer-13 _ _ kind _ (own (desk .before .before)) (desk .if2 .left) (means .receiver-is ∙ c .before .if3 .left) (or-first (eq-eqb _ 0 (c .if4 .taken)) _), λ z. absurd (omega arith))
 
 returns-5 : tie.Need-returns-5
 returns-5 c =
     let desk = c .before .before .before in
-    (λ kind means. number-13 _ _ kind _ (own (desk .before .before)) (desk .if2 .left) (means .receiver-is ∙ c .before .before .if3 .left) (or-second _ (lt-ltb _ _ (c .if5 .taken))), λ z. absurd (omega arith))
+    (λ kind means. answer-13 _ _ kind _ (own (desk .before .before)) (desk .if2 .left) (means .receiver-is ∙ c .before .before .if3 .left) (or-second _ (lt-ltb _ _ (c .if5 .taken))), λ z. absurd (omega arith))
 
 rights-at-requires : tie.Need-rights-at-requires
 rights-at-requires c κs = desk-most (desk-passed c)
@@ -104,7 +104,7 @@ wide-requires c κs = search needs
 returns-6 : tie.Need-returns-6
 returns-6 c =
     let less : c .before .before .rights-at .result < start (c .before .before .before) .args .amount = omega arith in
-    (λ kind means. number-14 (asked (c .before .before .before) means) (left (c .before .before) means) less, λ z. absurd (omega arith))
+    (λ kind means. answer-14 (asked (c .before .before .before) means) (left (c .before .before) means) less, λ z. absurd (omega arith))
 
 mul-wide : tie.Need-mul-wide
 mul-wide c = search needs
@@ -133,7 +133,7 @@ returns-7 c =
     let six : tie.Else6 = c .before .before .before .before in
     let over : tallyLimit < Tally six + start (past-rights six) .args .amount
     = omega (arith, c .if7 .taken, c .before .before .wide2 .ensures .0, c .before .wide3 .ensures .0) in (
-      λ kind means. number-15 (asked (past-rights six) means) (left (six .before .before) means) (enough six) (tally-is six means) over,
+      λ kind means. answer-15 (asked (past-rights six) means) (left (six .before .before) means) (enough six) (tally-is six means) over,
       λ z. absurd (omega arith),
     )
 
@@ -143,12 +143,12 @@ returns-8 c =
     let five = past-rights six in
     let fits : Tally six + start five .args .amount ≤ tallyLimit
     = omega (arith, c .if7 .left, c .before .before .wide2 .ensures .0, c .before .wide3 .ensures .0) in (
-      λ kind means. number-0 (asked five means) (left (six .before .before) means) (enough six) (tally-is six means) fits,
+      λ kind means. answer-0 (asked five means) (left (six .before .before) means) (enough six) (tally-is six means) fits,
       λ z. (own (own-passed five), five .before .before .if3 .left, desk-most (desk-passed five), fits),
     )
 
-pub act-number-spec : {M : Type 1} → statement M
-act-number-spec =
+pub act-answer-spec : {M : Type 1} → statement M
+act-answer-spec =
     tie.close
     (tie.spec
     audit-of-requires

@@ -1,7 +1,7 @@
--- `desks_right` is the two comparisons of the range.
+-- `desks_in_range` is the two comparisons of the range.
 -- Assumes nothing.
-use Rattle.pile.proofs.check.desks_right.Statement.{statement}
-use Rattle.pile.proofs.check.desks_right.Tie as tie
+use Rattle.pile.proofs.check.desks_in_range.Statement.{statement}
+use Rattle.pile.proofs.check.desks_in_range.Tie as tie
 use mathlib.Core.Path.{sym}
 use borrow.Author.Tests.{lt-leb, le-leb}
 use Rattle.rules.specs.Loops.{between}
@@ -15,5 +15,5 @@ returns-2 : tie.Need-returns-2
 unfolding between
 returns-2 c = and-left-holds (le-leb _ _ (c .if1 .left)) _
 
-pub desks-right-spec : {M : Type 1} → statement M
-desks-right-spec = tie.close (tie.spec returns returns-2)
+pub desks-in-range-spec : {M : Type 1} → statement M
+desks-in-range-spec = tie.close (tie.spec returns returns-2)

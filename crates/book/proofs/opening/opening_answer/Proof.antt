@@ -1,4 +1,4 @@
--- `opening_number` asks the lines of the table in their order, and stops at the first that is met.
+-- `opening_answer` asks the lines of the table in their order, and stops at the first that is met.
 -- Assumes nothing.
 use Prim.Native.Nat.{ℕ, _+_, _*_}
 use mathlib.Core.Path.{_≡_, ap₂, sym, _∙_}
@@ -17,8 +17,8 @@ use Rattle.rules.specs.Opening.{rising, given, givenPile, openingAnswer}
 use Rattle.rules.proofs.Loops.Logic.{holds, fails, and-both, and-left-fails, and-right-fails}
 use Rattle.rules.proofs.Loops.Refusals.{orElse-stands, not-met, none-met}
 use Rattle.book.proofs.Lengths.{given-most}
-use Rattle.book.proofs.opening.opening_number.Statement.{statement}
-use Rattle.book.proofs.opening.opening_number.Tie as tie
+use Rattle.book.proofs.opening.opening_answer.Statement.{statement}
+use Rattle.book.proofs.opening.opening_answer.Tie as tie
 
 -- the lines of the table
 module _ (n p : ℕ) (l : List ℕ) (room : ℕ) where
@@ -55,18 +55,18 @@ range c =
     (and-both (le-leb _ _ (three .if3 .left)) (le-leb _ _ (c .if4 .left)))
 
 -- what is left of the table where the numbers rise
-module _ (c : tie.After-openings-number) where
+module _ (c : tie.After-openings-answer) where
   abbrev long : tie.Else5
   long = c .before .before .before
 
   abbrev entry : tie.Start
   entry = start (long .before)
 
-  last : c .openings-number .result orElse 8 when ltb (entry .args .room) (bookLength (entry .args .n) (entry .args .p))
+  last : c .openings-answer .result orElse 8 when ltb (entry .args .room) (bookLength (entry .args .n) (entry .args .p))
       ≡ openingAnswer (entry .args .n) (entry .args .p) (entry .args .numbers .now) (entry .args .room)
   last =
       rest _ _ _ _ (range (long .before)) (long .if5 .left) (holds (c .before .before .numbers-rise .ensures) (c .before .if6 .left))
-      (c .openings-number .ensures)
+      (c .openings-answer .ensures)
 
 returns : tie.Need-returns
 unfolding between
@@ -104,8 +104,8 @@ returns-6 c =
     let five = c .before .before in
     refused-4 _ _ _ _ (range (five .before)) (five .if5 .left) (fails (c .before .numbers-rise .ensures) (c .if6 .taken))
 
-openings-number-requires : tie.Need-openings-number-requires
-openings-number-requires c κs = search needs
+openings-answer-requires : tie.Need-openings-answer-requires
+openings-answer-requires c κs = search needs
 
 returns-7 : tie.Need-returns-7
 returns-7 c = sym (orElse-stands _ _ (c .if7 .taken)) ∙ last (c .before)
@@ -127,8 +127,8 @@ returns-9 c =
     let passed = c .before .before in
     sym (none-met (passed .if7 .left) (not-met 8 (le-ltb _ _ (rw (c .before .body-at .ensures) at (c .if8 .left))))) ∙ last (passed .before)
 
-pub opening-number-spec : {M : Type 1} → statement M
-opening-number-spec =
+pub opening-answer-spec : {M : Type 1} → statement M
+opening-answer-spec =
     tie.close
     (tie.spec
     returns
@@ -141,7 +141,7 @@ opening-number-spec =
     returns-5
     numbers-rise-requires
     returns-6
-    openings-number-requires
+    openings-answer-requires
     returns-7
     body-at-requires
     returns-8

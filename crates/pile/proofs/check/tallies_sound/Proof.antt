@@ -1,8 +1,8 @@
--- `tallies_right` is the three tests in turn.
+-- `tallies_sound` is the three tests in turn.
 -- Assumes nothing.
 use borrow.Author.Needs.{needs}
-use Rattle.pile.proofs.check.tallies_right.Statement.{statement}
-use Rattle.pile.proofs.check.tallies_right.Tie as tie
+use Rattle.pile.proofs.check.tallies_sound.Statement.{statement}
+use Rattle.pile.proofs.check.tallies_sound.Tie as tie
 use mathlib.Core.Path.{sym, _∙_}
 use borrow.Author.Tests.{not-true, not-false}
 use Rattle.rules.proofs.Loops.Logic.{and-left-fails, and-right-fails, and-left-holds}
@@ -29,8 +29,8 @@ returns-3 : tie.Need-returns-3
 returns-3 c =
     c .all-zero .ensures ∙ and-left-holds (not-false _ (c .before .if2 .left)) _ ∙ and-left-holds (not-false _ (c .before .before .if1 .left)) _
 
-pub tallies-right-spec : {M : Type 1} → statement M
-tallies-right-spec =
+pub tallies-sound-spec : {M : Type 1} → statement M
+tallies-sound-spec =
     tie.close
     (tie.spec
     returns

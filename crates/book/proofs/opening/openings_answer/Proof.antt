@@ -1,4 +1,4 @@
--- `openings_number` asks one pile after the other, and stops at the first that is refused.
+-- `openings_answer` asks one pile after the other, and stops at the first that is refused.
 -- Assumes nothing.
 use Prim.Native.Nat.{_-_, _≤_}
 use native.Mathlib.Omega.{arith}
@@ -10,8 +10,8 @@ use Rattle.rules.specs.Pile.{openingLawful}
 use Rattle.rules.specs.Opening.{givenPile}
 use Rattle.rules.proofs.Loops.Refusals.{first-next, first-stops}
 use Rattle.book.proofs.Lengths.{given-within}
-use Rattle.book.proofs.opening.openings_number.Statement.{statement}
-use Rattle.book.proofs.opening.openings_number.Tie as tie
+use Rattle.book.proofs.opening.openings_answer.Statement.{statement}
+use Rattle.book.proofs.opening.openings_answer.Tie as tie
 
 abbrev Inv-loop : tie.InvT-loop
 Inv-loop numbers n p k₀ k = (k ≤ p) × (first k (λ j. 5 when not (openingLawful n (givenPile n numbers j))) ≡ 0)
@@ -48,8 +48,8 @@ returns-2 c =
     let done : c .before .loop .k ≡ c .before .before .before .args .p = omega arith in
     sym (rw done at (c .before .loop .inv .1))
 
-pub openings-number-spec : {M : Type 1} → statement M
-openings-number-spec =
+pub openings-answer-spec : {M : Type 1} → statement M
+openings-answer-spec =
     tie.close
     (tie.spec
     Inv-loop

@@ -12,7 +12,7 @@ use Rattle.rules.specs.Pile.{Side, rights, tonnage}
 use Rattle.rules.specs.Record.{Record, recordView, recordAnswer, recordDeskAnswer, recordTonnageReply, recordRightsReply}
 use Rattle.rules.proofs.Loops.Refusals.{when-accepted, when-refused, orElse-stands}
 
--- a refusal's number alone
+-- a refusal's answer alone
 refuses : (m x : ℕ) → m ≢ 0 → refused m ≡ reply m x
 unfolding reply
 refuses m x d = sym (when-refused _ _ _ d)

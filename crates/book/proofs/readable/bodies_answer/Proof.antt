@@ -1,4 +1,4 @@
--- `bodies_number` asks one body's record after the other, and a record is answered as its body's pile is.
+-- `bodies_answer` asks one body's record after the other, and a record is answered as its body's pile is.
 -- Assumes nothing.
 use Prim.Native.Nat.{ℕ, _-_, _≤_}
 use native.Mathlib.Omega.{arith}
@@ -12,8 +12,8 @@ use Rattle.rules.proofs.File.Readable.{lengths}
 use Rattle.rules.proofs.Record.RecordOf.{record-of-answer}
 use borrow.Author.Needs.{needs}
 use Rattle.book.proofs.Lengths.{body-next, body-within}
-use Rattle.book.proofs.readable.bodies_number.Statement.{statement}
-use Rattle.book.proofs.readable.bodies_number.Tie as tie
+use Rattle.book.proofs.readable.bodies_answer.Statement.{statement}
+use Rattle.book.proofs.readable.bodies_answer.Tie as tie
 
 abbrev Inv-loop : tie.InvT-loop
 Inv-loop book n p size at₀ k₀ at k =
@@ -92,8 +92,8 @@ returns-2 c =
     let done : c .before .loop .k ≡ start (c .before) .args .p = omega arith in
     sym (rw done at (c .before .loop .inv .2))
 
-pub bodies-number-spec : {M : Type 1} → statement M
-bodies-number-spec =
+pub bodies-answer-spec : {M : Type 1} → statement M
+bodies-answer-spec =
     tie.close
     (tie.spec
     Inv-loop

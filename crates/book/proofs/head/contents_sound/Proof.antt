@@ -1,4 +1,4 @@
--- `contents_right` tests one entry after the other, its number against the one before it and its position, and stops at the first that is wrong.
+-- `contents_sound` tests one entry after the other, its number against the one before it and its position, and stops at the first that is wrong.
 -- Assumes nothing.
 use Prim.Native.Nat.{_-_, _≤_}
 use native.Mathlib.Numerals.{add-one}
@@ -13,8 +13,8 @@ use Rattle.rules.specs.Layout.{pileNumberLimit, bodyAt, pileNumber, position}
 use Rattle.rules.specs.Opening.{previous, rising}
 use Rattle.rules.proofs.Loops.Logic.{and-both, and-left-fails, and-right-fails}
 use Rattle.rules.proofs.Loops.Every.{every-next, every-stops}
-use Rattle.book.proofs.head.contents_right.Statement.{statement}
-use Rattle.book.proofs.head.contents_right.Tie as tie
+use Rattle.book.proofs.head.contents_sound.Statement.{statement}
+use Rattle.book.proofs.head.contents_sound.Tie as tie
 
 abbrev Inv-loop : tie.InvT-loop
 Inv-loop book n p last₀ k₀ last k =
@@ -98,8 +98,8 @@ returns-3 c =
     let done : at .loop .k ≡ at .before .before .args .p = omega arith in
     sym (and-both (rw done at (at .loop .inv .2)) (rw done at (at .loop .inv .3)))
 
-pub contents-right-spec : {M : Type 1} → statement M
-contents-right-spec =
+pub contents-sound-spec : {M : Type 1} → statement M
+contents-sound-spec =
     tie.close
     (tie.spec
     Inv-loop

@@ -12,34 +12,34 @@ use Rattle.rules.specs.Refusals.{_when_, _orElse_}
 use Rattle.rules.specs.Pile.{rights, tallyLimit, amountLimit}
 use Rattle.rules.specs.Acts.{Kind, spend, give, side, tally, receiverWrong, actRefusal}
 use Rattle.rules.specs.Layout.{actColumn}
-use Rattle.rules.specs.Record.{Record, recordView, recordAnswer, recordDeskAnswer, recordActAnswer, recordAfterAct}
+use Rattle.rules.specs.Record.{Record, recordView, recordAnswer, recordDeskAnswer, recordActAnswer, recordAfterAct, rowPlaces}
 use Rattle.rules.proofs.Loops.Refusals.{when-accepted, orElse-stands}
 
 -- the tally of an act stands at its column of the desk's row
-pub tally-at : (r : Record) (i : ℕ) (kind : Kind) → tally (recordView r) i kind ≡ getD (r .tallies) (i * 18 + actColumn 8 kind) 0
+pub tally-at : (r : Record) (i : ℕ) (kind : Kind) → tally (recordView r) i kind ≡ getD (r .tallies) (i * rowPlaces + actColumn 8 kind) 0
 tally-at r i (spend s) = refl
 tally-at r i (give s j) = refl
 
 module _ (r : Record) (i : ℕ) (kind : Kind) (t : ℕ) where
-  pub own-number : (m : ℕ) → m ≡ recordAnswer r → m ≢ 0 → m ≡ recordActAnswer i kind t r
+  pub own-answer : (m : ℕ) → m ≡ recordAnswer r → m ≢ 0 → m ≡ recordActAnswer i kind t r
   unfolding recordActAnswer recordDeskAnswer
-  own-number m e d =
+  own-answer m e d =
       let desk = orElse-stands m (11 when not (ltb i (r .n))) d in
       sym (rw (← e, desk) (orElse-stands m (actRefusal (r .n) (recordView r) i kind t) d))
 
   module _ (passed : recordAnswer r ≡ 0) where
-    pub number-11 : r .n ≤ i → 11 ≡ recordActAnswer i kind t r
+    pub answer-11 : r .n ≤ i → 11 ≡ recordActAnswer i kind t r
     unfolding recordActAnswer recordDeskAnswer _when_ _orElse_
-    number-11 l = rw (passed, le-ltb i (r .n) l)
+    answer-11 l = rw (passed, le-ltb i (r .n) l)
 
     module _ (desk : i < r .n) where
-      pub number-12 : receiverWrong (r .n) i kind ≡ true → 12 ≡ recordActAnswer i kind t r
+      pub answer-12 : receiverWrong (r .n) i kind ≡ true → 12 ≡ recordActAnswer i kind t r
       unfolding recordActAnswer recordDeskAnswer actRefusal _when_ _orElse_
-      number-12 e = rw (passed, lt-ltb i (r .n) desk, e)
+      answer-12 e = rw (passed, lt-ltb i (r .n) desk, e)
 
-      pub number-13 : receiverWrong (r .n) i kind ≡ false → eqb t 0 or ltb amountLimit t ≡ true → 13 ≡ recordActAnswer i kind t r
+      pub answer-13 : receiverWrong (r .n) i kind ≡ false → eqb t 0 or ltb amountLimit t ≡ true → 13 ≡ recordActAnswer i kind t r
       unfolding recordActAnswer recordDeskAnswer actRefusal _when_ _orElse_
-      number-13 receiver e = rw (passed, lt-ltb i (r .n) desk, receiver, e)
+      answer-13 receiver e = rw (passed, lt-ltb i (r .n) desk, receiver, e)
 
 -- the lines up to the amount's let an act through
 pub record Asked (r : Record) (i : ℕ) (kind : Kind) (t : ℕ) : Type 0 where
@@ -49,19 +49,19 @@ pub record Asked (r : Record) (i : ℕ) (kind : Kind) (t : ℕ) : Type 0 where
   pub amount : eqb t 0 or ltb amountLimit t ≡ false
 
 module _ {r : Record} {i : ℕ} {kind : Kind} {t : ℕ} (a : Asked r i kind t) {left : ℕ} (is : left ≡ rights (r .n) (recordView r) (side kind) i) where
-  pub number-14 : left < t → 14 ≡ recordActAnswer i kind t r
+  pub answer-14 : left < t → 14 ≡ recordActAnswer i kind t r
   unfolding recordActAnswer recordDeskAnswer actRefusal _when_ _orElse_
-  number-14 l = rw (a .own, lt-ltb i (r .n) (a .desk), a .receiver, a .amount, sym is, lt-ltb left t l)
+  answer-14 l = rw (a .own, lt-ltb i (r .n) (a .desk), a .receiver, a .amount, sym is, lt-ltb left t l)
 
   module _ (enough : t ≤ left) {x : ℕ} (at : tally (recordView r) i kind ≡ x) where
-    pub number-15 : tallyLimit < x + t → 15 ≡ recordActAnswer i kind t r
+    pub answer-15 : tallyLimit < x + t → 15 ≡ recordActAnswer i kind t r
     unfolding recordActAnswer recordDeskAnswer actRefusal _when_ _orElse_
-    number-15 l =
+    answer-15 l =
         rw (a .own, lt-ltb i (r .n) (a .desk), a .receiver, a .amount, sym is, le-ltb left t enough, at, lt-ltb tallyLimit (x + t) l)
 
-    pub number-0 : x + t ≤ tallyLimit → 0 ≡ recordActAnswer i kind t r
+    pub answer-0 : x + t ≤ tallyLimit → 0 ≡ recordActAnswer i kind t r
     unfolding recordActAnswer recordDeskAnswer actRefusal _when_ _orElse_
-    number-0 l =
+    answer-0 l =
         rw (a .own, lt-ltb i (r .n) (a .desk), a .receiver, a .amount, sym is, le-ltb left t enough, at, le-ltb tallyLimit (x + t) l)
 
 -- the record with so much more at a column of a desk's row
@@ -72,7 +72,7 @@ more r i column t =
       floor = r .floor;
       top = r .top;
       shares = r .shares;
-      tallies = set (r .tallies) (i * 18 + column) (getD (r .tallies) (i * 18 + column) 0 + t);
+      tallies = set (r .tallies) (i * rowPlaces + column) (getD (r .tallies) (i * rowPlaces + column) 0 + t);
     }
 
 pub entered : (r : Record) (i : ℕ) (kind : Kind) (t : ℕ) {column : ℕ} → actColumn 8 kind ≡ column → recordActAnswer i kind t r ≡ 0
@@ -89,5 +89,5 @@ entered r i kind t k e =
           floor = r .floor;
           top = r .top;
           shares = r .shares;
-          tallies = set (r .tallies) (i * 18 + actColumn 8 kind) (x + t);
+          tallies = set (r .tallies) (i * rowPlaces + actColumn 8 kind) (x + t);
         }

@@ -13,44 +13,44 @@ use Rattle.rules.specs.Loops.{_and_, between}
 use Rattle.rules.specs.Refusals.{_when_, _orElse_, first}
 use Rattle.rules.specs.Pile.{pileAnswer, sameOpening}
 use Rattle.rules.specs.Layout.{desks, piles, bookLength, bodyAt, pileOf, bodyBytes}
-use Rattle.rules.specs.Book.{headRight, contentsRight, bookAnswer, place, absent, fetchAnswer, deskAnswer}
+use Rattle.rules.specs.Book.{headSound, contentsSound, bookAnswer, place, absent, fetchAnswer, deskAnswer}
 use Rattle.rules.specs.Record.{Record, recordView, recordAnswer, storeAnswer, afterStore}
 use Rattle.rules.proofs.Loops.Logic.{and-left, and-right}
 use Rattle.rules.proofs.Loops.Refusals.{orElse-stands, orElse-passes, when-accepted, when-refused}
 
 module _ (b : List ℕ) where
-  pub number-1 : length b < 4 → 1 ≡ bookAnswer b
+  pub answer-1 : length b < 4 → 1 ≡ bookAnswer b
   unfolding bookAnswer _when_ _orElse_
-  number-1 l = rw (lt-ltb _ _ l)
+  answer-1 l = rw (lt-ltb _ _ l)
 
   module _ (long : 4 ≤ length b) where
-    pub number-2 : headRight b ≡ false → 2 ≡ bookAnswer b
+    pub answer-2 : headSound b ≡ false → 2 ≡ bookAnswer b
     unfolding bookAnswer _when_ _orElse_
-    number-2 e = rw (le-ltb _ _ long, e)
+    answer-2 e = rw (le-ltb _ _ long, e)
 
-    module _ (head : headRight b ≡ true) where
+    module _ (head : headSound b ≡ true) where
       pub desks-range : (1 ≤ desks b) × (desks b ≤ 8)
-      unfolding headRight between
+      unfolding headSound between
       desks-range =
           let r = and-left _ _ (and-right _ _ head) in (leb-true _ _ (and-left _ _ r), leb-true _ _ (and-right _ _ r))
 
       pub piles-range : (1 ≤ piles b) × (piles b ≤ 32)
-      unfolding headRight between
+      unfolding headSound between
       piles-range =
           let r = and-left _ _ (and-right _ _ (and-right _ _ head)) in (leb-true _ _ (and-left _ _ r), leb-true _ _ (and-right _ _ r))
 
-      pub number-3 : length b ≢ bookLength (desks b) (piles b) → 3 ≡ bookAnswer b
+      pub answer-3 : length b ≢ bookLength (desks b) (piles b) → 3 ≡ bookAnswer b
       unfolding bookAnswer _when_ _orElse_
-      number-3 d = rw (le-ltb _ _ long, head, ne-eqb _ _ d)
+      answer-3 d = rw (le-ltb _ _ long, head, ne-eqb _ _ d)
 
       module _ (sized : length b ≡ bookLength (desks b) (piles b)) where
-        pub number-4 : contentsRight b ≡ false → 4 ≡ bookAnswer b
+        pub answer-4 : contentsSound b ≡ false → 4 ≡ bookAnswer b
         unfolding bookAnswer _when_ _orElse_
-        number-4 e = rw (le-ltb _ _ long, head, eq-eqb _ _ sized, e)
+        answer-4 e = rw (le-ltb _ _ long, head, eq-eqb _ _ sized, e)
 
-        pub number-of-bodies : contentsRight b ≡ true → first (piles b) (λ k. pileAnswer (desks b) (pileOf b k)) ≡ bookAnswer b
+        pub answer-of-bodies : contentsSound b ≡ true → first (piles b) (λ k. pileAnswer (desks b) (pileOf b k)) ≡ bookAnswer b
         unfolding bookAnswer _when_ _orElse_
-        number-of-bodies e = rw (le-ltb _ _ long, head, eq-eqb _ _ sized, e)
+        answer-of-bodies e = rw (le-ltb _ _ long, head, eq-eqb _ _ sized, e)
 
 -- and for a desk and a pile number
 module _ (b : List ℕ) (i number : ℕ) where

@@ -1,54 +1,54 @@
--- `head_right` asks the tests of a head in their order, and stops at the first that fails.
+-- `head_sound` asks the tests of a head in their order, and stops at the first that fails.
 -- Assumes nothing.
 use mathlib.Core.Path.{sym, _∙_}
 use borrow.Author.Needs.{needs}
 use borrow.Author.Tests.{eq-eqb, ne-eqb, le-leb, lt-leb}
 use Rattle.rules.specs.Loops.{between}
-use Rattle.rules.specs.Book.{headRight}
+use Rattle.rules.specs.Book.{headSound}
 use Rattle.rules.proofs.Loops.Logic.{and-both, and-left-holds, and-left-fails, and-right-fails}
-use Rattle.book.proofs.head.head_right.Statement.{statement}
-use Rattle.book.proofs.head.head_right.Tie as tie
+use Rattle.book.proofs.head.head_sound.Statement.{statement}
+use Rattle.book.proofs.head.head_sound.Tie as tie
 
 shared-slice-read-if1 : tie.Need-shared-slice-read-if1
 shared-slice-read-if1 c = search needs
 
 returns : tie.Need-returns
-unfolding headRight
+unfolding headSound
 returns c = sym (and-left-fails (ne-eqb _ 1 (c .if1 .taken)) _)
 
 shared-slice-read-if2 : tie.Need-shared-slice-read-if2
 shared-slice-read-if2 c = search needs
 
 returns-2 : tie.Need-returns-2
-unfolding headRight between
+unfolding headSound between
 returns-2 c = sym (and-right-fails _ (and-left-fails (and-left-fails (lt-leb _ _ (c .if2 .taken)) _) _))
 
 shared-slice-read-if3 : tie.Need-shared-slice-read-if3
 shared-slice-read-if3 c = search needs
 
 returns-3 : tie.Need-returns-3
-unfolding headRight between
+unfolding headSound between
 returns-3 c = sym (and-right-fails _ (and-left-fails (and-right-fails _ (lt-leb _ _ (c .if3 .taken))) _))
 
 shared-slice-read-if4 : tie.Need-shared-slice-read-if4
 shared-slice-read-if4 c = search needs
 
 returns-4 : tie.Need-returns-4
-unfolding headRight between
+unfolding headSound between
 returns-4 c = sym (and-right-fails _ (and-right-fails _ (and-left-fails (and-left-fails (lt-leb _ _ (c .if4 .taken)) _) _)))
 
 shared-slice-read-if5 : tie.Need-shared-slice-read-if5
 shared-slice-read-if5 c = search needs
 
 returns-5 : tie.Need-returns-5
-unfolding headRight between
+unfolding headSound between
 returns-5 c = sym (and-right-fails _ (and-right-fails _ (and-left-fails (and-right-fails _ (lt-leb _ _ (c .if5 .taken))) _)))
 
 shared-slice-read-result : tie.Need-shared-slice-read-result
 shared-slice-read-result c = search needs
 
 returns-6 : tie.Need-returns-6
-unfolding headRight between
+unfolding headSound between
 returns-6 c =
     let five = c .before in
     let four = five .before .before in
@@ -59,8 +59,8 @@ returns-6 c =
     ∙ and-left-holds (and-both (le-leb _ _ (two .if2 .left)) (le-leb _ _ (three .if3 .left))) _
     ∙ and-left-holds (eq-eqb _ 1 (one .if1 .left)) _
 
-pub head-right-spec : {M : Type 1} → statement M
-head-right-spec =
+pub head-sound-spec : {M : Type 1} → statement M
+head-sound-spec =
     tie.close
     (tie.spec
     shared-slice-read-if1

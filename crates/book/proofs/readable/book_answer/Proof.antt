@@ -1,17 +1,17 @@
--- `book_number` asks the lines of the table in their order.
+-- `book_answer` asks the lines of the table in their order.
 -- Assumes nothing.
 use Prim.Native.Nat.{_+_, _*_, _≤_}
 use mathlib.Core.Path.{_≡_, sym, _∙_}
 use mathlib.Core.Bool.{true}
 use lib.ListN.{length}
 use Rattle.rules.specs.Layout.{bookLength, desks, piles, pileOf}
-use Rattle.rules.specs.Book.{headRight, contentsRight}
+use Rattle.rules.specs.Book.{headSound, contentsSound}
 use Rattle.rules.proofs.Loops.Logic.{holds, fails}
 use borrow.Author.Needs.{needs}
 use Rattle.book.proofs.Lengths.{contents-within}
-use Rattle.book.proofs.Numbers.{number-1, number-2, desks-range, piles-range, number-3, number-4, number-of-bodies}
-use Rattle.book.proofs.readable.book_number.Statement.{statement}
-use Rattle.book.proofs.readable.book_number.Tie as tie
+use Rattle.book.proofs.BookLines.{answer-1, answer-2, desks-range, piles-range, answer-3, answer-4, answer-of-bodies}
+use Rattle.book.proofs.readable.book_answer.Statement.{statement}
+use Rattle.book.proofs.readable.book_answer.Tie as tie
 
 -- Past the first test the head is there, past the second it is right, past the third the book is as long as it says.
 abbrev start : tie.Else2 → tie.Start
@@ -20,8 +20,8 @@ start c = c .before .before .before .before
 abbrev long : (c : tie.Else2) → 4 ≤ length (start c .args .book .now)
 long c = c .before .before .if1 .left
 
-abbrev headed : (c : tie.Else2) → headRight (start c .args .book .now) ≡ true
-headed c = holds (c .before .head-right .ensures) (c .if2 .left)
+abbrev headed : (c : tie.Else2) → headSound (start c .args .book .now) ≡ true
+headed c = holds (c .before .head-sound .ensures) (c .if2 .left)
 
 abbrev read : tie.After-body-at → tie.Else2
 read c = c .before .before .before
@@ -34,13 +34,13 @@ contents-fit : (c : tie.Else3) → 4 + piles (start (read (c .before)) .args .bo
 contents-fit c = rw (sized c) (contents-within _ _)
 
 returns : tie.Need-returns
-returns c = number-1 _ (c .if1 .taken)
+returns c = answer-1 _ (c .if1 .taken)
 
-head-right-requires : tie.Need-head-right-requires
-head-right-requires c κs = search needs
+head-sound-requires : tie.Need-head-sound-requires
+head-sound-requires c κs = search needs
 
 returns-2 : tie.Need-returns-2
-returns-2 c = number-2 _ (c .before .before .if1 .left) (fails (c .before .head-right .ensures) (c .if2 .taken))
+returns-2 c = answer-2 _ (c .before .before .if1 .left) (fails (c .before .head-sound .ensures) (c .if2 .taken))
 
 shared-slice-read-n : tie.Need-shared-slice-read-n
 shared-slice-read-n c = search needs
@@ -61,43 +61,43 @@ body-at-requires c κs =
 
 returns-3 : tie.Need-returns-3
 unfolding bookLength
-returns-3 c = number-3 _ (long (read (c .before))) (headed (read (c .before))) (λ e. c .if3 .taken (e ∙ sym (c .before .body-at .ensures)))
+returns-3 c = answer-3 _ (long (read (c .before))) (headed (read (c .before))) (λ e. c .if3 .taken (e ∙ sym (c .before .body-at .ensures)))
 
-cast-contents-right : tie.Need-cast-contents-right
-cast-contents-right c = search (needs, desks-range _ (long (read (c .before))) (headed (read (c .before))))
+cast-contents-sound : tie.Need-cast-contents-sound
+cast-contents-sound c = search (needs, desks-range _ (long (read (c .before))) (headed (read (c .before))))
 
-contents-right-requires : tie.Need-contents-right-requires
-contents-right-requires c κs =
+contents-sound-requires : tie.Need-contents-sound-requires
+contents-sound-requires c κs =
     let two = read (c .before) in (desks-range _ (long two) (headed two) .1, piles-range _ (long two) (headed two) .1, contents-fit c)
 
 returns-4 : tie.Need-returns-4
-unfolding contentsRight
+unfolding contentsSound
 returns-4 c =
     let three = c .before .before in
     let two = read (three .before) in
-    number-4 _ (long two) (headed two) (sized three) (fails (c .before .contents-right .ensures) (c .if4 .taken))
+    answer-4 _ (long two) (headed two) (sized three) (fails (c .before .contents-sound .ensures) (c .if4 .taken))
 
-bodies-number-requires : tie.Need-bodies-number-requires
-bodies-number-requires c κs =
+bodies-answer-requires : tie.Need-bodies-answer-requires
+bodies-answer-requires c κs =
     let three = c .before .before in
     let two = read (three .before) in
     let n = desks-range _ (long two) (headed two) in (n .0, n .1, piles-range _ (long two) (headed two) .1, sized three)
 
 returns-5 : tie.Need-returns-5
-unfolding contentsRight pileOf
+unfolding contentsSound pileOf
 returns-5 c =
     let four = c .before in
     let three = four .before .before in
     let two = read (three .before) in
-    c .bodies-number .ensures
-    ∙ number-of-bodies _ (long two) (headed two) (sized three) (holds (four .before .contents-right .ensures) (four .if4 .left))
+    c .bodies-answer .ensures
+    ∙ answer-of-bodies _ (long two) (headed two) (sized three) (holds (four .before .contents-sound .ensures) (four .if4 .left))
 
-pub book-number-spec : {M : Type 1} → statement M
-book-number-spec =
+pub book-answer-spec : {M : Type 1} → statement M
+book-answer-spec =
     tie.close
     (tie.spec
     returns
-    head-right-requires
+    head-sound-requires
     returns-2
     shared-slice-read-n
     shared-slice-read-p
@@ -105,8 +105,8 @@ book-number-spec =
     cast-body-at
     body-at-requires
     returns-3
-    cast-contents-right
-    contents-right-requires
+    cast-contents-sound
+    contents-sound-requires
     returns-4
-    bodies-number-requires
+    bodies-answer-requires
     returns-5)

@@ -1,8 +1,8 @@
--- `opening_right` is the tests of the opening in turn.
+-- `opening_sound` is the tests of the opening in turn.
 -- Assumes nothing.
 use borrow.Author.Needs.{needs}
-use Rattle.pile.proofs.check.opening_right.Statement.{statement}
-use Rattle.pile.proofs.check.opening_right.Tie as tie
+use Rattle.pile.proofs.check.opening_sound.Statement.{statement}
+use Rattle.pile.proofs.check.opening_sound.Tie as tie
 use mathlib.Core.Path.{sym, _∙_}
 use borrow.Author.Tests.{lt-leb, le-leb, eq-eqb, ne-eqb}
 use Rattle.rules.proofs.Loops.Logic.{holds, fails, and-left-fails, and-right-fails, and-left-holds, and-both}
@@ -46,8 +46,8 @@ returns-5 c =
     (and-both (le-leb _ _ (c .before .before .before .before .before .if2 .left))
     (eq-eqb _ _ (c .before .before .before .if3 .left ∙ c .before .before .before .before .wide .ensures .0)))) _
 
-pub opening-right-spec : {M : Type 1} → statement M
-opening-right-spec =
+pub opening-sound-spec : {M : Type 1} → statement M
+opening-sound-spec =
     tie.close
     (tie.spec
     returns
