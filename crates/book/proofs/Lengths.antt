@@ -8,7 +8,7 @@ use mathlib.Core.List.{List}
 use lib.ListN.{getD}
 use Rattle.rules.specs.Layout.{bodyLength, bodyAt, bookLength, deskLimit, pileLimit, frontLength}
 use Rattle.rules.specs.Opening.{given}
-pub use Rattle.rules.proofs.File.Cells.{body-within}
+pub use Rattle.rules.proofs.File.Written.{body-within}
 
 pub body-most : (n : ℕ) → n ≤ deskLimit → bodyLength n ≤ 648
 unfolding bodyLength

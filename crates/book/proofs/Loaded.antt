@@ -16,7 +16,7 @@ use Rattle.rules.specs.Pile.{Side, draw, tip, Pile}
 use Rattle.rules.specs.Layout.{earnedColumn, column}
 use Rattle.rules.specs.Record.{padded, recordOf, rowPlaces, tallyPlaces, sharePlaces}
 use Rattle.rules.proofs.Loops.Pieces.{length-list, getD-list}
-use Rattle.rules.proofs.Bytes.Put.{getD-sets-in, getD-sets-other}
+use Rattle.rules.proofs.Loops.Sets.{getD-sets-in, getD-sets-other}
 use Rattle.rules.proofs.File.Body.{column-below}
 use Rattle.rules.proofs.Record.RecordOf.{padded-used, padded-unused, shares-are, tallies-are}
 

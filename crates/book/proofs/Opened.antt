@@ -3,25 +3,19 @@
 use Prim.Native.Nat.{ℕ, _+_, _*_, _≤_}
 use native.Mathlib.Omega.{arith}
 use mathlib.Core.Path.{_≡_, ap, sym, _∙_}
-use mathlib.Core.Bool.{not}
 use mathlib.Core.List.{List, [], _∷_, _++_}
 use lib.ListN.{length}
 use lib.Seq.{sets, length-sets}
-use borrow.Author.Tests.{eqb-true, ltb-false}
 use Rattle.rules.specs.Loops.{flat}
-use Rattle.rules.specs.Refusals.{_when_, first}
-use Rattle.rules.specs.Pile.{openingLawful}
+use Rattle.rules.specs.Refusals.{first}
 use Rattle.rules.specs.Numbers.{bytes, afterPut}
-use Rattle.rules.specs.Layout.{bodyLength, bodyAt, bookLength, bodyBytes, entryBytes, bookBytes, entryAt, positionAt}
+use Rattle.rules.specs.Layout.{bodyLength, bodyAt, bodyBytes, entryBytes, bookBytes, entryAt, positionAt}
 use Rattle.rules.specs.Record.{Record, recordView, recordOf}
-use Rattle.rules.specs.Opening.{given, givenPile, openingAnswer, opened}
-use Rattle.rules.proofs.Loops.Refusals.{when-done, when-not-done, orElse-first, orElse-rest}
+use Rattle.rules.specs.Opening.{given, givenPile, opened}
 use Rattle.rules.proofs.Bytes.Numbers.{length-bytes}
-use Rattle.rules.proofs.Bytes.Put.{sets-append}
+use Rattle.rules.proofs.Loops.Sets.{sets-append}
 use Rattle.rules.proofs.File.Body.{length-body, body-cong}
 use Rattle.rules.proofs.File.Written.{length-entry, length-contents}
-use Rattle.rules.proofs.File.LawfulBook.{Frame}
-use Rattle.rules.proofs.File.Opened.{opened-frame}
 use Rattle.rules.proofs.Record.RecordOf.{record-agrees}
 use Rattle.book.proofs.Saved.{put-fits, sets-piece}
 
@@ -75,22 +69,3 @@ module _ (n p : ℕ) (l : List ℕ) where
       let long : length (flat p entry) ≡ p * 6 = length-contents n p (λ k. given n l k 0) (givenPile n l) in
       rw (bodies, front)
       (ap (λ (j : ℕ). sets (sets b 0 v) j (flat p (body n l))) (omega (arith, long)) ∙ sym (sets-append b 0 v (flat p (body n l))))
-
--- what an accepted opening tells
-pub record Accepted (n p : ℕ) (l : List ℕ) (room : ℕ) : Type 0 where
-  pub frame : Frame n p (λ k. given n l k 0)
-  pub sized : length l ≡ p * (3 + 2 * n)
-  pub lawful : first p (λ k. 5 when not (openingLawful n (givenPile n l k))) ≡ 0
-  pub enough : bookLength n p ≤ room
-
-pub accepted-facts : (n p : ℕ) (l : List ℕ) (room : ℕ) → openingAnswer n p l room ≡ 0 → Accepted n p l room
-unfolding openingAnswer
-accepted-facts n p l room e =
-    let sizes = orElse-rest _ _ e in
-    let piles = orElse-rest _ _ (orElse-rest _ _ sizes) in
-    record {
-      frame = opened-frame n p l room e;
-      sized = eqb-true _ _ (when-not-done _ _ (orElse-first _ _ sizes));
-      lawful = orElse-first _ _ piles;
-      enough = ltb-false _ _ (when-done _ _ (orElse-rest _ _ piles));
-    }

@@ -16,7 +16,7 @@ use Rattle.rules.specs.Record.{Record, recordCell, recordView, rowPlaces}
 use Rattle.rules.proofs.Loops.Refusals.{not-met, when-accepted}
 use Rattle.rules.proofs.Loops.Pieces.{length-flat, flat-cong, length-list, list-add, list-cong}
 use Rattle.rules.proofs.Bytes.Numbers.{encode-append, length-encode}
-use Rattle.rules.proofs.Bytes.Put.{sets-append}
+use Rattle.rules.proofs.Loops.Sets.{sets-append}
 use Rattle.rules.proofs.File.Body.{length-body-row}
 
 -- a number that fits is written

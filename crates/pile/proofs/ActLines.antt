@@ -13,7 +13,7 @@ use Rattle.rules.specs.Pile.{rights, tallyLimit, amountLimit}
 use Rattle.rules.specs.Acts.{Kind, spend, give, side, tally, receiverWrong, actRefusal}
 use Rattle.rules.specs.Layout.{actColumn}
 use Rattle.rules.specs.Record.{Record, recordView, recordAnswer, recordDeskAnswer, recordActAnswer, recordAfterAct, rowPlaces}
-use Rattle.rules.proofs.Loops.Refusals.{when-accepted, orElse-stands}
+use Rattle.rules.proofs.Loops.Refusals.{when-accepted, own-refusal}
 
 -- the tally of an act stands at its column of the desk's row
 pub tally-at : (r : Record) (i : ℕ) (kind : Kind) → tally (recordView r) i kind ≡ getD (r .tallies) (i * rowPlaces + actColumn 8 kind) 0
@@ -23,9 +23,7 @@ tally-at r i (give s j) = refl
 module _ (r : Record) (i : ℕ) (kind : Kind) (t : ℕ) where
   pub own-answer : (m : ℕ) → m ≡ recordAnswer r → m ≢ 0 → m ≡ recordActAnswer i kind t r
   unfolding recordActAnswer recordDeskAnswer
-  own-answer m e d =
-      let desk = orElse-stands m (11 when not (ltb i (r .n))) d in
-      sym (rw (← e, desk) (orElse-stands m (actRefusal (r .n) (recordView r) i kind t) d))
+  own-answer m e d = own-refusal (own-refusal e d (11 when not (ltb i (r .n)))) d (actRefusal (r .n) (recordView r) i kind t)
 
   module _ (passed : recordAnswer r ≡ 0) where
     pub answer-11 : r .n ≤ i → 11 ≡ recordActAnswer i kind t r

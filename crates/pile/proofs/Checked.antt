@@ -4,9 +4,8 @@ use Prim.Native.Nat.{ℕ, _+_, _<_}
 use native.Mathlib.Omega.{arith}
 use mathlib.Core.Path.{_≡_, refl, ap, ap₂, sym, _∙_}
 use mathlib.Core.Bool.{Bool, true}
-use mathlib.Core.List.{List, [], _∷_}
+use mathlib.Core.List.{List}
 use lib.ListN.{getD}
-use lib.Seq.{getD-append-add}
 use lib.Dec.{leb}
 use Rattle.rules.specs.Loops.{_and_, sum, every}
 use Rattle.rules.specs.Pile.{Side, draw, tip, other, Pile, credit, debit, lawful}
@@ -15,22 +14,16 @@ use Rattle.rules.proofs.Loops.Logic.{same, and-left, and-right, and-both}
 use Rattle.rules.proofs.Loops.Every.{every-at, every-all}
 use Rattle.rules.proofs.Loops.Sums.{sum-cong}
 use Rattle.rules.proofs.Pile.Facts.{both-at, both-all}
+use Rattle.rules.proofs.Record.Shares.{share-at, sideNumber}
 use Rattle.pile.specs.Account.{shareOf, earnedBy, spentBy, givenBy, Accounted}
-
-abbrev pub sideNumber : Side → ℕ
-sideNumber draw = 0
-sideNumber tip = 1
 
 module _ (r : Record) where
   abbrev P : Pile
   P = recordView r
 
   -- the accounts' numbers are the record's
-  pub share-at : (s : Side) (i : ℕ) → shareOf (r .shares) (r .tallies) (sideNumber s) i ≡ P .share s i
-  share-at draw i =
-      ap (λ (k : ℕ). getD (r .shares) k 0) (omega arith) ∙ sym (getD-append-add (r .floor ∷ r .top ∷ []) (r .shares) i 0)
-  share-at tip i =
-      ap (λ (k : ℕ). getD (r .shares) k 0) (omega arith) ∙ sym (getD-append-add (r .floor ∷ r .top ∷ []) (r .shares) (8 + i) 0)
+  pub share-is : (s : Side) (i : ℕ) → shareOf (r .shares) (r .tallies) (sideNumber s) i ≡ P .share s i
+  share-is s i = sym (share-at (r .floor) (r .top) (r .shares) s i)
 
   pub earned-at : (s : Side) (i : ℕ) → earnedBy (r .shares) (r .tallies) (sideNumber s) i ≡ P .earned s i
   earned-at draw i = refl
@@ -47,12 +40,12 @@ module _ (r : Record) where
   module _ (n : ℕ) (s : Side) {sound : Bool} {shareSum : ℕ} {credit′ debit′ : List ℕ}
       (a : Accounted (r .shares) (r .tallies) (sideNumber s) n sound shareSum credit′ debit′) where
     pub share-sum-is : shareSum ≡ sum n (P .share s)
-    share-sum-is = a .shares-sum ∙ sum-cong n (λ i _. share-at s i)
+    share-sum-is = a .shares-sum ∙ sum-cong n (λ i _. share-is s i)
 
     pub credit-is : sound ≡ true → (i : ℕ) → i < n → getD credit′ i 0 ≡ credit n P s i
     unfolding credit
     credit-is e i l =
-        a .credits e i l ∙ ap₂ _+_ (ap₂ _+_ (share-at s i) (earned-at s i)) (sum-cong n (λ j _. give-at s j i))
+        a .credits e i l ∙ ap₂ _+_ (ap₂ _+_ (share-is s i) (earned-at s i)) (sum-cong n (λ j _. give-at s j i))
 
     pub debit-is : sound ≡ true → (i : ℕ) → i < n → getD debit′ i 0 ≡ debit n P s i
     unfolding debit

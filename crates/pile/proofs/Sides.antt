@@ -1,4 +1,4 @@
--- A side by its answer: 0 is draw, and any other is tip.
+-- A side by its number: 0 is draw, and any other is tip.
 -- Assumes nothing.
 use Prim.Native.Nat.{ℕ, zero, suc}
 use mathlib.Core.Path.{_≡_, refl, ap}

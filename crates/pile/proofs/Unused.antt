@@ -20,7 +20,8 @@ use Rattle.rules.proofs.Pile.Facts.{both-at, both-all}
 use Rattle.rules.proofs.File.Body.{by-column, column-below}
 use Rattle.rules.proofs.Record.Unused.{unused-share, unused-earned, unused-give}
 use Rattle.pile.specs.Account.{rowSound}
-use Rattle.pile.proofs.Checked.{sideNumber, share-at, earned-at, give-at}
+use Rattle.pile.proofs.Checked.{share-is, earned-at, give-at}
+use Rattle.rules.proofs.Record.Shares.{sideNumber}
 
 zero-at : (m : ℕ) (f : ℕ → ℕ) → every m (λ k. eqb (f k) 0) ≡ true → (k : ℕ) → k < m → f k ≡ 0
 zero-at m f e k l = eqb-true _ _ (every-at m _ e k l)
@@ -52,10 +53,10 @@ module _ (r : Record) (n : ℕ) (n≤8 : n ≤ 8) where
       (zero-all (8 - n) _ (λ k l. at-tip k ∙ unused-share n P e tip (n + k) (omega arith) (omega arith))))
     where
       at-draw : (k : ℕ) → getD (r .shares) (n + k) 0 ≡ P .share draw (n + k)
-      at-draw k = ap (λ (q : ℕ). getD (r .shares) q 0) (omega arith) ∙ share-at r draw (n + k)
+      at-draw k = ap (λ (q : ℕ). getD (r .shares) q 0) (omega arith) ∙ share-is r draw (n + k)
 
       at-tip : (k : ℕ) → getD (r .shares) (8 + n + k) 0 ≡ P .share tip (n + k)
-      at-tip k = ap (λ (q : ℕ). getD (r .shares) q 0) (omega arith) ∙ share-at r tip (n + k)
+      at-tip k = ap (λ (q : ℕ). getD (r .shares) q 0) (omega arith) ∙ share-is r tip (n + k)
 
       both : (s : Side) → every (8 - n) (λ k. eqb (getD (r .shares) (n + k) 0) 0) ≡ true
           → every (8 - n) (λ k. eqb (getD (r .shares) (8 + n + k) 0) 0) ≡ true → (j : ℕ) → n ≤ j → j < 8 → P .share s j ≡ 0

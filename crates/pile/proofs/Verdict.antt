@@ -7,13 +7,12 @@ use mathlib.Core.Bool.{Bool, true, false}
 use mathlib.Core.List.{List}
 use lib.ListN.{getD}
 use lib.Dec.{leb, eqb}
-use borrow.Author.Tests.{leb-true}
 use Rattle.rules.specs.Loops.{_and_, between, every}
 use Rattle.rules.specs.Refusals.{_when_, _orElse_}
 use Rattle.rules.specs.Layout.{deskLimit}
 use Rattle.rules.specs.Pile.{Side, draw, tip, Pile, credit, debit, rights, topLimit, openingLawful, talliesLawful, lawful}
 use Rattle.rules.specs.Record.{Record, recordView, recordAnswer, unusedShares, unusedPlaces, rowPlaces, tallyPlaces}
-use Rattle.rules.proofs.Loops.Logic.{and-left, and-right, and-both}
+use Rattle.rules.proofs.Loops.Logic.{in-range, and-left, and-right, and-both}
 use Rattle.rules.proofs.Loops.Sums.{sum-cong}
 use Rattle.rules.proofs.Pile.Tonnage.{tonnage-floor}
 use Rattle.rules.proofs.Record.Facts.{record-facts}
@@ -21,10 +20,6 @@ use Rattle.pile.specs.Account.{Accounted, Balanced}
 use Rattle.pile.specs.View.{Audited, bySide}
 use Rattle.pile.proofs.Checked.{share-sum-is, credit-is, debit-is, lawful-is}
 use Rattle.pile.proofs.Unused.{unused-shares, tallies-sound}
-
-pub in-range : (n : ℕ) → between 1 deskLimit n ≡ true → (1 ≤ n) × (n ≤ 8)
-unfolding between
-in-range n e = (leb-true _ _ (and-left _ _ e), leb-true _ _ (and-right _ _ e))
 
 -- a refused record: nothing else is promised of it
 refuses : {r : Record} {answer weight : ℕ} {left : Side → List ℕ} (k : ℕ) → answer ≡ suc k → recordAnswer r ≡ suc k
@@ -48,7 +43,7 @@ module _ (r : Record) (range : between 1 deskLimit (r .n) ≡ true) {dsound tsou
   P = recordView r
 
   n≤8 : r .n ≤ 8
-  n≤8 = in-range (r .n) range .1
+  n≤8 = in-range 1 deskLimit (r .n) range .1
 
   -- 5
   abbrev openingTest : Bool
@@ -123,6 +118,6 @@ module _ (r : Record) (range : between 1 deskLimit (r .n) ≡ true) {dsound tsou
         record {
           answer-is = sym passes;
           tonnage-is = λ _. is ∙ ap (λ (x : ℕ). r .floor + x) (db .all-is dl ∙ sum-cong (r .n) (less draw))
-              ∙ sym (tonnage-floor (r .n) P (record-facts r passes));
+              ∙ sym (tonnage-floor (r .n) P (record-facts r passes .pile));
           rights-are = λ _. rights-are;
         }

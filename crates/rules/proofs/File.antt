@@ -9,4 +9,5 @@ pub mod Found
 pub mod Cells
 pub mod PutCell
 pub mod AfterAct
+pub mod PutBody
 pub mod Refused

@@ -1,8 +1,9 @@
--- Loops and lists: tests, sums, lines of a table, lists in pieces. Nothing here knows the book.
+-- Loops and lists: nothing here knows the book. Tests first, then lines of a table, sums, and lists made of pieces.
 pub mod Logic
 pub mod Every
 pub mod Refusals
 pub mod Sums
+pub mod Ranges
 pub mod Pieces
 pub mod Parts
-pub mod Ranges
+pub mod Sets

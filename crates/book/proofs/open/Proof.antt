@@ -6,8 +6,9 @@ use mathlib.Core.Path.{_≡_, sym, _∙_}
 use lib.ListN.{length}
 use Rattle.rules.specs.Opening.{openingAnswer, afterOpening}
 use Rattle.rules.proofs.Loops.Refusals.{when-accepted, when-refused}
+use Rattle.rules.proofs.File.Opened.{Accepted, accepted-facts}
 use Rattle.book.proofs.Lengths.{contents-within}
-use Rattle.book.proofs.Opened.{put-book, Accepted, accepted-facts}
+use Rattle.book.proofs.Opened.{put-book}
 use borrow.Author.Needs.{needs}
 use Rattle.book.proofs.open.Statement.{statement}
 use Rattle.book.proofs.open.Tie as tie

@@ -20,7 +20,7 @@ use Rattle.rules.proofs.Pile.Facts.{facts}
 use Rattle.rules.proofs.Pile.Tonnage.{tonnage-within}
 use Rattle.rules.proofs.File.Readable.{book-facts}
 use Rattle.rules.proofs.File.LawfulBook.{Frame, written-readable, Lawful}
-use Rattle.rules.proofs.File.Opened.{opened-frame, opened-lawful}
+use Rattle.rules.proofs.File.Opened.{accepted-facts, opened-lawful}
 use Rattle.rules.proofs.File.Refused.{act-refused}
 use Rattle.rules.proofs.Take.MergeRow.{RowLe}
 use Rattle.rules.proofs.Take.Merge.{Merged, take-accepted, take-merges}
@@ -102,7 +102,7 @@ module _ (n p : ℕ) (numbers : ℕ → ℕ) (frame : Frame n p numbers) (start 
 pub opened-laws : (n p : ℕ) (l : List ℕ) → openingAnswer n p l (bookLength n p) ≡ 0 → Laws book n Within (opened n p l)
 unfolding opened
 opened-laws n p l accepted =
-    book-laws n p (λ k. given n l k 0) (opened-frame n p l (bookLength n p) accepted) (givenPile n l)
+    book-laws n p (λ k. given n l k 0) (accepted-facts n p l (bookLength n p) accepted .frame) (givenPile n l)
     (opened-lawful n p l (bookLength n p) accepted)
 
 -- Demand 3: for every book that an accepted opening writes, and every list of calls of its desks

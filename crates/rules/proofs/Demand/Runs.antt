@@ -13,12 +13,11 @@ use Rattle.rules.specs.Acts.{Kind, Act, acted, actRefusal}
 use Rattle.rules.specs.Layout.{pileOf, bookBytes}
 use Rattle.rules.specs.Book.{place, absent, deskAnswer, actAnswer, afterAct}
 use Rattle.rules.specs.Demand.{book}
-use Rattle.rules.proofs.Loops.Every.{index-cong}
 use Rattle.rules.proofs.Loops.Refusals.{not-met, none-met}
 use Rattle.rules.proofs.Pile.Acted.{ActFacts, act-passes}
 use Rattle.rules.proofs.Pile.Agree.{Agree, agree-sym, facts-cong, act-facts-cong, acted-cong}
 use Rattle.rules.proofs.File.Written.{book-cong}
-use Rattle.rules.proofs.File.LawfulBook.{Frame, written-octets, written-number, written-pile, written-readable, Lawful}
+use Rattle.rules.proofs.File.LawfulBook.{written-place, Frame, written-octets, written-number, written-pile, written-readable, Lawful}
 use Rattle.rules.proofs.File.AfterAct.{actedAt, act-desk, act-pile, act-allowed, after-act, lawful-after}
 use Rattle.rules.proofs.Demand.Grown.{at, grown, grown-none, grown-acted}
 
@@ -32,9 +31,8 @@ actedAt-cong n P Q k i kind t k′ a = go (eqb k′ k)
 
 module _ (n p : ℕ) (numbers : ℕ → ℕ) (frame : Frame n p numbers) where
   module _ (P : ℕ → Pile) (lawful : Lawful n p P) where
-    pub place-of : (number : ℕ) → place (bookBytes n p numbers P) number ≡ at p numbers number
-    unfolding place bookBytes
-    place-of number = index-cong p _ _ (λ k l. ap (λ (x : ℕ). eqb x number) (written-number n p numbers frame P k l))
+    place-of : (number : ℕ) → place (bookBytes n p numbers P) number ≡ at p numbers number
+    place-of = written-place n p numbers frame P
 
     -- an act is accepted exactly where its desk and its pile are there, and the pile allows it
     pub accepted-facts : (i : ℕ) (a : Act) → actAnswer i a (bookBytes n p numbers P) ≡ 0

@@ -1,7 +1,7 @@
 -- Reading a body that was written, and writing a body that was read. Both go row by row: a row is its 2(n + 1) numbers in column order.
 -- Assumes nothing.
 use Prim.Native.Nat.{ℕ, zero, suc, _+_, _-_, _*_, _^_, _≤_, _<_, suc-le-suc}
-use native.Mathlib.Nat.{zero-lt-suc, suc-mul, add-assoc, mul-le-mul-right, le-of-suc-le-suc}
+use native.Mathlib.Nat.{zero-lt-suc, add-assoc, le-of-suc-le-suc}
 use native.Mathlib.Decide.{decLt}
 use native.Mathlib.Omega.{arith}
 use mathlib.Core.Path.{_≡_, refl, ap, sym, subst, _∙_, ap₂}
@@ -19,6 +19,7 @@ use Rattle.rules.proofs.Loops.Pieces.{length-flat, flat-cong, flat-part
 use Rattle.rules.proofs.Bytes.Numbers.{Octets, number-part, number-flat, length-encode, number-encode, encode-numbers}
 use Rattle.rules.proofs.Pile.Facts.{PileFacts, OpeningFacts}
 use Rattle.rules.proofs.Pile.Agree.{Agree}
+use Rattle.rules.proofs.Loops.Ranges.{piece-within}
 
 -- each number has 4 bytes
 abbrev pub Fits4 : ℕ → Type 0
@@ -107,6 +108,10 @@ pub body-rows : (n : ℕ) → suc n * rowLength n ≡ bodyLength n
 unfolding rowLength bodyLength
 body-rows n = omega arith
 
+-- row r lies within its body
+pub row-within : (n r : ℕ) → r < suc n → r * rowLength n + rowLength n ≤ bodyLength n
+row-within n r l = omega (arith, body-rows n, piece-within (rowLength n) l)
+
 pub length-body : (n : ℕ) (p : Pile) → length (bodyBytes n p) ≡ bodyLength n
 unfolding bodyBytes
 length-body n p = length-flat (suc n) (rowLength n) _ (λ r l. length-body-row n p r) ∙ body-rows n
@@ -126,7 +131,7 @@ pub write-body : (n : ℕ) (b : List ℕ) (at : ℕ) → Octets b → at + bodyL
 unfolding bodyBytes
 write-body n b at o l =
     flat-cong (suc n) (λ r r<n. write-row n b at r o
-    (omega (arith, body-rows n, mul-le-mul-right (rowLength n) r<n, suc-mul r (rowLength n))))
+    (omega (arith, row-within n r r<n)))
     ∙ flat-parts (suc n) (rowLength n) at b
     ∙ ap (λ (m : ℕ). part at m b) (body-rows n)
 
@@ -137,7 +142,7 @@ module _ (n : ℕ) (p : Pile) (fits : Fits n p) (b : List ℕ) (at : ℕ) (writt
   unfolding bodyBytes cellAt
   cell r c v r<n c<w is fits =
       sym (number-part 4 b at (bodyLength n) (r * rowLength n + c * 4)
-      (omega (arith, row-length n, body-rows n, mul-le-mul-right (rowLength n) r<n, suc-mul r (rowLength n))))
+      (omega (arith, row-length n, row-within n r r<n)))
       ∙ ap (λ (l : List ℕ). number 4 l (r * rowLength n + c * 4)) written
       ∙ number-flat 4 (suc n) (rowLength n) _ (λ r _. length-body-row n p r) r (c * 4) r<n (omega (arith, row-length n))
       ∙ number-encode (bodyRow n p r) c (omega (arith, length-numbers n p r)) (rw is fits)

@@ -6,18 +6,13 @@ use native.Mathlib.Decide.{ℕ-discrete}
 use native.Mathlib.Omega.{arith}
 use mathlib.Core.Path.{ap}
 use mathlib.Core.Logic.{_⊎_, inl, inr, ⊎-elim, by-cases, _≢_}
-use Rattle.rules.specs.Layout.{rowLength, bodyLength, bodyAt, bookLength, cellAt, columns}
+use Rattle.rules.specs.Layout.{rowLength, bodyLength, bodyAt, cellAt, columns}
 use Rattle.rules.proofs.Loops.Ranges.{Apart, below-or-above, pieces-apart}
 
 -- a cell of n desks lies within its body
 pub cell-fits : (n r c : ℕ) → r < suc n → c < columns n → cellAt n r c + 4 ≤ bodyLength n
 unfolding cellAt rowLength bodyLength
 cell-fits n r c r<n c<w = omega (arith, mul-le-mul-right (8 * (n + 1)) r<n)
-
--- and body k within its book
-pub body-within : (n p k : ℕ) → k < p → bodyAt n p k + bodyLength n ≤ bookLength n p
-unfolding bodyAt bookLength
-body-within n p k l = omega (arith, mul-le-mul-right (bodyLength n) l)
 
 -- cells of different bodies, and different cells of one body
 pub bodies-apart : (n p k k′ r r′ c c′ : ℕ) → r < suc n → r′ < suc n → c < columns n → c′ < columns n → k ≢ k′

@@ -2,16 +2,17 @@
 -- Assumes nothing.
 use Prim.Native.Nat.{ℕ, zero, suc, _≤_, _<_}
 use native.Mathlib.Omega.{arith}
-use mathlib.Core.Path.{_≡_, refl, _∙_}
+use mathlib.Core.Path.{_≡_, refl, ap, _∙_}
 use mathlib.Core.Bool.{true}
-use mathlib.Core.List.{[], _∷_, _++_}
-use lib.Dec.{lit<}
-use Rattle.rules.specs.Loops.{flat}
+use mathlib.Core.List.{List, [], _∷_, _++_}
+use lib.Dec.{lit<, eqb}
+use Rattle.rules.specs.Loops.{flat, index}
 use Rattle.rules.specs.Numbers.{bytes, encode}
 use Rattle.rules.specs.Pile.{Pile}
-use Rattle.rules.specs.Layout.{deskLimit, pileLimit, bodyAt, pileNumber, pileOf, bodyBytes, bodyRow, entryBytes, bookBytes}
+use Rattle.rules.specs.Layout.{deskLimit, pileLimit, bodyAt, desks, piles, pileNumber, pileOf, bodyBytes, bodyRow, entryBytes, bookBytes}
 use Rattle.rules.specs.Opening.{rising}
-use Rattle.rules.specs.Book.{bookAnswer}
+use Rattle.rules.specs.Book.{bookAnswer, place}
+use Rattle.rules.proofs.Loops.Every.{index-cong}
 use Rattle.rules.proofs.Bytes.Numbers.{Octets, octets-bytes, octets-append, octets-flat, octets-encode}
 use Rattle.rules.proofs.Pile.Facts.{PileFacts, passes}
 use Rattle.rules.proofs.Pile.Agree.{Agree, agree-sym, facts-cong}
@@ -27,6 +28,16 @@ pub record Frame (n p : ℕ) (numbers : ℕ → ℕ) : Type 0 where
   pub piles-least : 1 ≤ p
   pub piles-most : p ≤ pileLimit
   pub rises : rising p numbers ≡ true
+
+pub readable-frame : (b : List ℕ) → BookFacts b → Frame (desks b) (piles b) (pileNumber b)
+readable-frame b f =
+    record {
+      desks-least = f .desks-least;
+      desks-most = f .desks-most;
+      piles-least = f .piles-least;
+      piles-most = f .piles-most;
+      rises = f .rises;
+    }
 
 abbrev pub Lawful : ℕ → ℕ → (ℕ → Pile) → Type 0
 Lawful n p P = (k : ℕ) → k < p → PileFacts n (P k)
@@ -54,7 +65,11 @@ module _ (n p : ℕ) (numbers : ℕ → ℕ) (frame : Frame n p numbers) (pile :
   pub written-number : (k : ℕ) → k < p → pileNumber (bookBytes n p numbers pile) k ≡ numbers k
   written-number k l = read-number n p numbers pile k l (number-most p numbers (frame .rises) k l)
 
-  module _ (lawful : (k : ℕ) → k < p → PileFacts n (pile k)) where
+  pub written-place : (number : ℕ) → place (bookBytes n p numbers pile) number ≡ index p (λ k. eqb (numbers k) number)
+  unfolding place bookBytes
+  written-place number = index-cong p _ _ (λ k l. ap (λ (x : ℕ). eqb x number) (written-number k l))
+
+  module _ (lawful : Lawful n p pile) where
     pub written-pile : (k : ℕ) → k < p → Agree n (pileOf (bookBytes n p numbers pile) k) (pile k)
     written-pile k l = read-pile n p numbers pile k l (lawful-fits n (pile k) (lawful k l))
 

@@ -1,43 +1,71 @@
--- An accepted opening writes a readable book.
+-- An accepted opening: the plain facts that it tells, and that what it writes is a readable book, the start of demand 3.
 -- Assumes nothing.
-use Prim.Native.Nat.{ℕ, _<_}
-use mathlib.Core.Path.{_≡_, refl}
-use mathlib.Core.Bool.{true}
+use Prim.Native.Nat.{ℕ, _+_, _*_, _≤_, _<_}
+use native.Mathlib.Omega.{arith}
+use mathlib.Core.Path.{_≡_, refl, ap, sym, _∙_}
+use mathlib.Core.Bool.{not}
 use mathlib.Core.List.{List}
-use borrow.Author.Tests.{leb-true}
-use Rattle.rules.specs.Loops.{between}
+use lib.ListN.{length}
+use lib.Seq.{sets}
+use borrow.Author.Tests.{eqb-true, ltb-false}
+use Rattle.rules.specs.Refusals.{_when_, first}
+use Rattle.rules.specs.Numbers.{part}
 use Rattle.rules.specs.Pile.{openingLawful}
-use Rattle.rules.specs.Opening.{given, givenPile, openingAnswer, opened}
+use Rattle.rules.specs.Layout.{bookLength}
+use Rattle.rules.specs.Opening.{given, givenPile, openingAnswer, opened, afterOpening}
 use Rattle.rules.specs.Book.{bookAnswer}
-use Rattle.rules.proofs.Loops.Logic.{and-left, and-right}
-use Rattle.rules.proofs.Loops.Refusals.{when-not-done, orElse-first, orElse-rest, first-at}
+use Rattle.rules.proofs.Loops.Logic.{in-range, and-left, and-right}
+use Rattle.rules.proofs.Loops.Refusals.{when-done, when-not-done, orElse-first, orElse-rest, first-at, when-accepted}
+use Rattle.rules.proofs.Loops.Sets.{part-sets}
 use Rattle.rules.proofs.Pile.Facts.{PileFacts, opening-facts}
 use Rattle.rules.proofs.Pile.Fresh.{fresh-lawful}
+use Rattle.rules.proofs.File.Written.{length-book}
 use Rattle.rules.proofs.File.LawfulBook.{Frame, written-readable}
 
-module _ (n p : ℕ) (l : List ℕ) (room : ℕ) (accepted : openingAnswer n p l room ≡ 0) where
-  pub opened-frame : Frame n p (λ k. given n l k 0)
-  unfolding openingAnswer between
-  opened-frame =
-      let ranges = when-not-done _ _ (orElse-first _ _ accepted) in
-      record {
-        desks-least = leb-true _ _ (and-left _ _ (and-left _ _ ranges));
-        desks-most = leb-true _ _ (and-right _ _ (and-left _ _ ranges));
-        piles-least = leb-true _ _ (and-left _ _ (and-right _ _ ranges));
-        piles-most = leb-true _ _ (and-right _ _ (and-right _ _ ranges));
-        rises = when-not-done _ _ (orElse-first _ _ (orElse-rest _ _ (orElse-rest _ _ accepted)));
-      }
+pub record Accepted (n p : ℕ) (l : List ℕ) (room : ℕ) : Type 0 where
+  pub frame : Frame n p (λ k. given n l k 0)
+  pub sized : length l ≡ p * (3 + 2 * n)
+  pub lawful : first p (λ k. 5 when not (openingLawful n (givenPile n l k))) ≡ 0
+  pub enough : bookLength n p ≤ room
 
-  opening-lawful : (k : ℕ) → k < p → openingLawful n (givenPile n l k) ≡ true
+module _ (n p : ℕ) (l : List ℕ) (room : ℕ) (accepted : openingAnswer n p l room ≡ 0) where
+  pub accepted-facts : Accepted n p l room
   unfolding openingAnswer
-  opening-lawful k k<p =
-      when-not-done _ _ (first-at p _ (orElse-first _ _ (orElse-rest _ _ (orElse-rest _ _ (orElse-rest _ _ accepted)))) k k<p)
+  accepted-facts =
+      let ranges = when-not-done _ _ (orElse-first _ _ accepted) in
+      let desks = in-range _ _ _ (and-left _ _ ranges) in
+      let piles = in-range _ _ _ (and-right _ _ ranges) in
+      let listed = orElse-rest _ _ accepted in
+      let rest = orElse-rest _ _ (orElse-rest _ _ listed) in
+      record {
+        frame = record {
+          desks-least = desks .0;
+          desks-most = desks .1;
+          piles-least = piles .0;
+          piles-most = piles .1;
+          rises = when-not-done _ _ (orElse-first _ _ (orElse-rest _ _ listed));
+        };
+        sized = eqb-true _ _ (when-not-done _ _ (orElse-first _ _ listed));
+        lawful = orElse-first _ _ rest;
+        enough = ltb-false _ _ (when-done _ _ (orElse-rest _ _ rest));
+      }
 
   pub opened-lawful : (k : ℕ) → k < p → PileFacts n (givenPile n l k)
   unfolding givenPile
   opened-lawful k k<p =
-      fresh-lawful n (givenPile n l k) (λ s i. refl) (λ s i j. refl) (opening-facts n (givenPile n l k) (opening-lawful k k<p))
+      fresh-lawful n (givenPile n l k) (λ s i. refl) (λ s i j. refl)
+      (opening-facts n (givenPile n l k) (when-not-done _ _ (first-at p _ (accepted-facts .lawful) k k<p)))
 
   pub opened-readable : bookAnswer (opened n p l) ≡ 0
   unfolding opened
-  opened-readable = written-readable n p (λ k. given n l k 0) opened-frame (givenPile n l) opened-lawful
+  opened-readable = written-readable n p (λ k. given n l k 0) (accepted-facts .frame) (givenPile n l) opened-lawful
+
+-- what an accepted opening leaves in the lent buffer begins with the book that demand 3 starts from
+pub buffer-starts : (n p : ℕ) (l out : List ℕ) → openingAnswer n p l (length out) ≡ 0
+    → part 0 (bookLength n p) (afterOpening n p l out) ≡ opened n p l
+unfolding afterOpening opened
+buffer-starts n p l out accepted =
+    let len = length-book n p (λ k. given n l k 0) (givenPile n l) in
+    ap (part 0 (bookLength n p)) (when-accepted _ _ _ accepted)
+    ∙ ap (λ (m : ℕ). part 0 m (sets out 0 (opened n p l))) (sym len)
+    ∙ part-sets out 0 (opened n p l) (omega (arith, len, accepted-facts n p l (length out) accepted .enough))

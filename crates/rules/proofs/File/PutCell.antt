@@ -1,7 +1,6 @@
 -- One number put into a cell of a readable book: every other number stands apart from it, so the book is the old one with that number changed.
 -- Assumes nothing.
-use Prim.Native.Nat.{ℕ, suc, _+_, _*_, _^_, _≤_, _<_}
-use native.Mathlib.Nat.{mul-le-mul-right, suc-mul}
+use Prim.Native.Nat.{ℕ, suc, _+_, _^_, _≤_, _<_}
 use native.Mathlib.Omega.{arith}
 use mathlib.Core.Path.{_≡_, sym, _∙_}
 use mathlib.Core.Logic.{_⊎_, inl, inr, _≢_}
@@ -10,11 +9,12 @@ use lib.ListN.{length, getD}
 use lib.Seq.{sets, length-sets}
 use Rattle.rules.specs.Numbers.{number, bytes}
 use Rattle.rules.specs.Pile.{Pile}
-use Rattle.rules.specs.Layout.{bodyLength, bodyAt, bookLength, cellAt, bodyView, desks, piles, pileNumber, position, bookBytes, columns, entryAt, positionAt, frontLength}
+use Rattle.rules.specs.Layout.{bodyAt, bookLength, cellAt, bodyView, desks, piles, pileNumber, position, bookBytes, columns, entryAt, positionAt, frontLength}
 use Rattle.rules.proofs.Bytes.Numbers.{Octets, octets-bytes}
-use Rattle.rules.proofs.Bytes.Put.{getD-sets-other, octets-sets, put-same, put-other}
+use Rattle.rules.proofs.Loops.Sets.{getD-sets-other}
+use Rattle.rules.proofs.Bytes.Put.{octets-sets, put-same, put-other}
 use Rattle.rules.proofs.Pile.Agree.{Agree}
-use Rattle.rules.proofs.File.Written.{write-book}
+use Rattle.rules.proofs.File.Written.{write-book, body-within}
 use Rattle.rules.proofs.File.Readable.{BookFacts}
 use Rattle.rules.proofs.File.Cells.{cell-fits, bodies-apart, cells-apart}
 
@@ -44,7 +44,7 @@ module _ (b : List ℕ) (k r c v : ℕ) (h : Puts b k r c v) where
   unfolding bodyAt bookLength
   spot-within =
       omega
-      (arith, h .book .sized, cell-fits (desks b) r c (h .row-in) (h .column-in), mul-le-mul-right (bodyLength (desks b)) (h .pile-in), suc-mul k (bodyLength (desks b)))
+      (arith, h .book .sized, cell-fits (desks b) r c (h .row-in) (h .column-in), body-within (desks b) (piles b) k (h .pile-in))
 
   -- before the bodies nothing changes
   front : (q : ℕ) → q < frontLength (piles b) → getD (putCell b k r c v) q 0 ≡ getD b q 0

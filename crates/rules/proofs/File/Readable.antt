@@ -7,14 +7,14 @@ use mathlib.Core.Path.{_≡_, refl}
 use mathlib.Core.Bool.{true}
 use mathlib.Core.List.{List}
 use lib.ListN.{length, getD}
-use borrow.Author.Tests.{leb-true, ltb-false, eqb-true, le-leb, le-ltb, eq-eqb}
+use borrow.Author.Tests.{ltb-false, eqb-true, le-leb, le-ltb, eq-eqb}
 use Rattle.rules.specs.Loops.{between}
 use Rattle.rules.specs.Refusals.{_when_, _orElse_}
 use Rattle.rules.specs.Pile.{pileAnswer}
 use Rattle.rules.specs.Layout.{deskLimit, pileLimit, bodyLength, bodyAt, bookLength, desks, piles, pileNumber, position, pileOf, bookBytes}
 use Rattle.rules.specs.Opening.{rising}
 use Rattle.rules.specs.Book.{headSound, contentsSound, bookAnswer}
-use Rattle.rules.proofs.Loops.Logic.{and-left, and-right, and-both}
+use Rattle.rules.proofs.Loops.Logic.{in-range, and-left, and-right, and-both}
 use Rattle.rules.proofs.Loops.Every.{every-at, every-all}
 use Rattle.rules.proofs.Loops.Refusals.{when-done, when-not-done, orElse-first, orElse-rest, first-at, first-none}
 use Rattle.rules.proofs.Bytes.Numbers.{Octets}
@@ -35,7 +35,7 @@ pub record BookFacts (b : List ℕ) : Type 0 where
   pub bodies : (k : ℕ) → k < piles b → pileAnswer (desks b) (pileOf b k) ≡ 0
 
 pub book-facts : (b : List ℕ) → bookAnswer b ≡ 0 → BookFacts b
-unfolding bookAnswer headSound contentsSound between
+unfolding bookAnswer headSound contentsSound
 book-facts b e =
     let head : headSound b ≡ true = when-not-done _ _ (orElse-first _ _ (orElse-rest _ _ e)) in
     let rest = orElse-rest _ _ (orElse-rest _ _ e) in
@@ -45,10 +45,10 @@ book-facts b e =
       long = ltb-false _ _ (when-done _ _ (orElse-first _ _ e));
       version = eqb-true _ _ (and-left _ _ head);
       fourth = eqb-true _ _ (and-right _ _ (and-right _ _ ranges));
-      desks-least = leb-true _ _ (and-left _ _ (and-left _ _ ranges));
-      desks-most = leb-true _ _ (and-right _ _ (and-left _ _ ranges));
-      piles-least = leb-true _ _ (and-left _ _ (and-left _ _ (and-right _ _ ranges)));
-      piles-most = leb-true _ _ (and-right _ _ (and-left _ _ (and-right _ _ ranges)));
+      desks-least = in-range _ _ _ (and-left _ _ ranges) .0;
+      desks-most = in-range _ _ _ (and-left _ _ ranges) .1;
+      piles-least = in-range _ _ _ (and-left _ _ (and-right _ _ ranges)) .0;
+      piles-most = in-range _ _ _ (and-left _ _ (and-right _ _ ranges)) .1;
       sized = eqb-true _ _ (when-not-done _ _ (orElse-first _ _ rest));
       rises = and-left _ _ contents;
       placed = λ k l. eqb-true _ _ (every-at (piles b) _ (and-right _ _ contents) k l);

@@ -1,7 +1,7 @@
 -- Reading a book that was written, and writing a book that was read: the book is its head, its contents and its bodies, one after the other.
 -- Assumes nothing.
 use Prim.Native.Nat.{ℕ, _+_, _*_, _^_, _≤_, _<_}
-use native.Mathlib.Nat.{le-of-eq, zero-add, add-zero, mul-le-mul-right, suc-mul}
+use native.Mathlib.Nat.{le-of-eq, zero-add, add-zero}
 use native.Mathlib.Omega.{arith}
 use mathlib.Core.Path.{_≡_, refl, ap, ap₂, sym, _∙_}
 use mathlib.Core.List.{List, [], _∷_, _++_}
@@ -16,6 +16,12 @@ use Rattle.rules.proofs.Loops.Pieces.{flat-cong, length-flat, flat-part
 use Rattle.rules.proofs.Bytes.Numbers.{Octets, length-bytes, number-front, number-append, number-flat, number-bytes, bytes-number}
 use Rattle.rules.proofs.Pile.Agree.{Agree}
 use Rattle.rules.proofs.File.Body.{Fits, Fits4, length-body, read-body, write-body, body-cong}
+use Rattle.rules.proofs.Loops.Ranges.{piece-within}
+
+-- body k lies within its book
+pub body-within : (n p k : ℕ) → k < p → bodyAt n p k + bodyLength n ≤ bookLength n p
+unfolding bodyAt bookLength
+body-within n p k l = omega (arith, piece-within (bodyLength n) l)
 
 module _ (n p : ℕ) (numbers : ℕ → ℕ) (pile : ℕ → Pile) where
   pub length-entry : (k : ℕ) → length (entryBytes n p numbers k) ≡ 6
@@ -89,7 +95,7 @@ module _ (n p : ℕ) (numbers : ℕ → ℕ) (pile : ℕ → Pile) where
       ∙ entry-number 4 k 2 l (lit≤ tt)
       ∙ ap (number 4 (entryBytes n p numbers k)) (omega (arith, length-bytes 2 (numbers k)))
       ∙ number-append 4 (bytes 2 (numbers k)) (bytes 4 (bodyAt n p k)) 0
-      ∙ number-bytes 4 (bodyAt n p k) (omega (arith, mul-le-mul-right (bodyLength n) l, suc-mul k (bodyLength n)))
+      ∙ number-bytes 4 (bodyAt n p k) (omega (arith, body-within n p k l))
 
   pub read-pile : (k : ℕ) → k < p → Fits n (pile k) → Agree n (pileOf (bookBytes n p numbers pile) k) (pile k)
   unfolding pileOf bookBytes
@@ -127,7 +133,7 @@ module _ (n p : ℕ) (numbers : ℕ → ℕ) (pile : ℕ → Pile) (b : List ℕ
   unfolding bookLength bodyAt
   write-pile k l =
       sym (body-cong n _ (pile k) (agree k l))
-      ∙ write-body n b (bodyAt n p k) o (omega (arith, mul-le-mul-right (bodyLength n) l, suc-mul k (bodyLength n)))
+      ∙ write-body n b (bodyAt n p k) o (omega (arith, body-within n p k l))
 
   pub write-book : bookBytes n p numbers pile ≡ b
   unfolding bookBytes bookLength bodyAt

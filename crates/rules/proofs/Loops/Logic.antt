@@ -1,11 +1,12 @@
 -- Tests joined by `and` and `or`: what the whole tells of its parts, and the other way round.
 -- Assumes nothing.
+use Prim.Native.Nat.{ℕ, _≤_}
 use mathlib.Core.Path.{_≡_, refl, ap, ap₂, sym, _∙_}
 use mathlib.Core.Logic.{_⊎_, inl, inr}
 use mathlib.Core.Bool.{Bool, true, false, not, true≢false, false≢true}
-use borrow.Author.Tests.{not-true, not-false}
+use borrow.Author.Tests.{leb-true, not-true, not-false}
 pub use Rattle.history.proofs.Sets.{same}
-use Rattle.rules.specs.Loops.{_and_, _or_}
+use Rattle.rules.specs.Loops.{_and_, _or_, between}
 
 -- a Bool is one or the other
 pub decided : (b : Bool) → (b ≡ true) ⊎ (b ≡ false)
@@ -28,6 +29,11 @@ pub and-right : (a b : Bool) → a and b ≡ true → b ≡ true
 unfolding _and_
 and-right true b e = e
 and-right false b e = absurd (false≢true e)
+
+-- a number in a range
+pub in-range : (low high x : ℕ) → between low high x ≡ true → (low ≤ x) × (x ≤ high)
+unfolding between
+in-range low high x e = (leb-true _ _ (and-left _ _ e), leb-true _ _ (and-right _ _ e))
 
 pub and-both : {a b : Bool} → a ≡ true → b ≡ true → a and b ≡ true
 unfolding _and_

@@ -1,7 +1,7 @@
 -- Lists made of m pieces one after the other, and taken apart again: head, contents, bodies, rows and numbers are all such pieces.
 -- Assumes nothing.
 use Prim.Native.Nat.{ℕ, zero, suc, _+_, _*_, _≤_, _<_}
-use native.Mathlib.Nat.{le-refl, le-of-eq, le-step, not-suc-le-zero, le-of-suc-le-suc, eq-or-lt-of-le, zero-add, add-zero, zero-mul, suc-mul, add-suc, mul-le-mul-right}
+use native.Mathlib.Nat.{le-refl, le-of-eq, le-step, not-suc-le-zero, le-of-suc-le-suc, eq-or-lt-of-le, zero-add, add-zero, zero-mul, suc-mul, add-suc}
 use native.Mathlib.Omega.{arith}
 use mathlib.Core.Path.{_≡_, refl, ap, ap₂, sym, subst⁻¹, _∙_}
 use mathlib.Core.Logic.{⊎-elim}
@@ -10,6 +10,7 @@ use lib.ListN.{length, getD, take, drop, length-append, length-drop, List·getD-
 use lib.Seq.{take-all, take-add, drop-drop, take-append-le, drop-append-le, drop-append-add, getD-append-add}
 use Rattle.rules.specs.Loops.{flat, list}
 use Rattle.rules.specs.Numbers.{part}
+use Rattle.rules.proofs.Loops.Ranges.{piece-within}
 
 module _ {A : Type 0} where
   pub flat-cong : (m : ℕ) {f g : ℕ → List A} → ((k : ℕ) → k < m → f k ≡ g k) → flat m f ≡ flat m g
@@ -33,7 +34,7 @@ module _ {A : Type 0} where
       ⊎-elim
       (λ k≡m. ap (λ (n : ℕ). getD (flat m f ++ f m) n d) (ap (λ (n : ℕ). n * ℓ + j) k≡m ∙ ap (λ (n : ℕ). n + j) (sym len))
       ∙ getD-append-add (flat m f) (f m) j d ∙ ap (λ (n : ℕ). getD (f n) j d) (sym k≡m))
-      (λ k<m. List·getD-append (flat m f) (f m) d (k * ℓ + j) (omega (arith, mul-le-mul-right ℓ k<m, suc-mul k ℓ))
+      (λ k<m. List·getD-append (flat m f) (f m) d (k * ℓ + j) (omega (arith, piece-within ℓ k<m))
       ∙ getD-flat m ℓ f d (λ k l. h k (le-step l)) k j k<m j<ℓ)
       (eq-or-lt-of-le (le-of-suc-le-suc k<m))
 
@@ -59,7 +60,7 @@ module _ {A : Type 0} where
       ⊎-elim
       (λ k≡m. ap (λ (x : ℕ). part x n (flat m f ++ f m)) (ap (λ (x : ℕ). x * ℓ + c) k≡m ∙ ap (λ (x : ℕ). x + c) (sym len))
       ∙ part-behind c n (flat m f) (f m) ∙ ap (λ (x : ℕ). part c n (f x)) (sym k≡m))
-      (λ k<m. part-front (k * ℓ + c) n (flat m f) (f m) (omega (arith, mul-le-mul-right ℓ k<m, suc-mul k ℓ))
+      (λ k<m. part-front (k * ℓ + c) n (flat m f) (f m) (omega (arith, piece-within ℓ k<m))
       ∙ part-in-flat m ℓ f (λ k l. h k (le-step l)) k c n k<m l)
       (eq-or-lt-of-le (le-of-suc-le-suc k<m))
 

@@ -7,7 +7,7 @@ use mathlib.Core.Path.{_≡_, refl, ap, ap₂, sym, _∙_}
 use mathlib.Core.Logic.{⊎-elim, _≢_}
 use mathlib.Core.Bool.{Bool, true, false, cond, not}
 use borrow.Author.Tests.{eq-eqb, ne-eqb, not-false}
-use Rattle.rules.specs.Refusals.{_when_, _orElse_, first, done}
+use Rattle.rules.specs.Refusals.{_when_, _orElse_, first, done, refused, value, reply}
 
 -- a line of the table that is not met, and the lines after it
 pub when-done : (number : ℕ) (c : Bool) → suc number when c ≡ 0 → c ≡ false
@@ -23,6 +23,10 @@ pub orElse-stands : (a b : ℕ) → a ≢ 0 → a orElse b ≡ a
 unfolding _orElse_
 orElse-stands zero b d = absurd (d refl)
 orElse-stands (suc a) b d = refl
+
+-- so the first refusal is the own one, whatever the lines after it say
+pub own-refusal : {m own : ℕ} → m ≡ own → m ≢ 0 → (rest : ℕ) → m ≡ own orElse rest
+own-refusal {m} e d rest = sym (rw (← e) (orElse-stands m rest d))
 
 -- where the lines before it are not met, the rest of the table answers
 pub orElse-passes : {a : ℕ} → a ≡ 0 → (b : ℕ) → a orElse b ≡ b
@@ -80,3 +84,12 @@ when-accepted answer after before e = ap (λ (b : Bool). cond b after before) (e
 pub when-refused : {A : Type 0} (answer : ℕ) (after before : A) → answer ≢ 0 → done answer after before ≡ before
 unfolding done
 when-refused answer after before h = ap (λ (b : Bool). cond b after before) (ne-eqb answer 0 h)
+
+-- what a query replies
+pub reply-refused : (answer x : ℕ) → answer ≢ 0 → refused answer ≡ reply answer x
+unfolding reply
+reply-refused answer x d = sym (when-refused _ _ _ d)
+
+pub reply-value : (answer x : ℕ) → answer ≡ 0 → value x ≡ reply answer x
+unfolding reply
+reply-value answer x e = sym (when-accepted _ _ _ e)

@@ -153,7 +153,9 @@ module _ (n : ℕ) (p q : Pile) (a : Agree n p q) where
         give = λ s′ k m l l′. ap (λ (x : ℕ). cond (sameSide s′ s and eqb k i and eqb m j) (x + t) x) (a .give s′ k m l l′);
       }
 
-pub same-opening : (n : ℕ) (p q : Pile) → Agree n p q → sameOpening n p q ≡ true
+-- piles whose openings agree, whatever their tallies
+pub same-opening : (n : ℕ) (p q : Pile) → p .floor ≡ q .floor → p .top ≡ q .top → ((s : Side) (i : ℕ) → i < n → p .share s i ≡ q .share s i)
+    → sameOpening n p q ≡ true
 unfolding sameOpening
-same-opening n p q a =
-    and-both (eq-eqb _ _ (a .floor)) (and-both (eq-eqb _ _ (a .top)) (every-all n (λ i l. both-all (λ s. eq-eqb _ _ (a .share s i l)))))
+same-opening n p q floor top share =
+    and-both (eq-eqb _ _ floor) (and-both (eq-eqb _ _ top) (every-all n (λ i l. both-all (λ s. eq-eqb _ _ (share s i l)))))

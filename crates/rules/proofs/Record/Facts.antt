@@ -1,38 +1,35 @@
--- A record that passes its own check has 1 to 8 desks and is a lawful pile.
+-- A record passes its own check only where these plain facts hold of it.
 -- Assumes nothing.
 use Prim.Native.Nat.{_≤_}
-use mathlib.Core.Path.{_≡_}
-use mathlib.Core.Bool.{true}
-use borrow.Author.Tests.{leb-true}
-use Rattle.rules.specs.Loops.{between, every}
-use Rattle.rules.specs.Refusals.{_when_, _orElse_}
-use Rattle.rules.specs.Pile.{openingLawful, talliesLawful, lawful, pileAnswer}
+use mathlib.Core.Path.{_≡_, ap}
+use mathlib.Core.Bool.{true, not}
+use Rattle.rules.specs.Pile.{lawful, pileAnswer}
 use Rattle.rules.specs.Layout.{deskLimit}
-use Rattle.rules.specs.Record.{Record, recordView, recordAnswer}
-use Rattle.rules.proofs.Loops.Logic.{and-left, and-right}
-use Rattle.rules.proofs.Loops.Refusals.{when-not-done, orElse-first, orElse-rest}
+use Rattle.rules.specs.Record.{Record, recordView, unusedShares, unusedPlaces, recordAnswer}
+use Rattle.rules.proofs.Loops.Logic.{in-range, and-left, and-right}
+use Rattle.rules.proofs.Loops.Refusals.{when-not-done, orElse-first, orElse-rest, not-met, none-met}
 use Rattle.rules.proofs.Pile.Facts.{PileFacts, facts}
 
-module _ (r : Record) (e : recordAnswer r ≡ 0) where
-  pub record-range : (1 ≤ r .n) × (r .n ≤ deskLimit)
-  unfolding recordAnswer between
-  record-range =
-      let range = when-not-done _ _ (orElse-first _ _ e) in
-      (leb-true _ _ (and-left _ _ range), leb-true _ _ (and-right _ _ range))
+pub record RecordFacts (r : Record) : Type 0 where
+  pub desks-least : 1 ≤ r .n
+  pub desks-most : r .n ≤ deskLimit
+  pub pile : PileFacts (r .n) (recordView r)
+  pub shares-unused : unusedShares (r .n) (recordView r) ≡ true
+  pub places-unused : unusedPlaces (r .n) (recordView r) ≡ true
 
-  tests : (openingLawful (r .n) (recordView r) ≡ true) × (every (r .n) (talliesLawful (r .n) (recordView r)) ≡ true)
-      × (lawful (r .n) (recordView r) ≡ true)
-  unfolding recordAnswer
-  tests =
-      let rest = orElse-rest _ _ e in (
-        and-left _ _ (when-not-done _ _ (orElse-first _ _ rest)),
-        and-left _ _ (when-not-done _ _ (orElse-first _ _ (orElse-rest _ _ rest))),
-        when-not-done _ _ (orElse-rest _ _ (orElse-rest _ _ rest)),
-      )
-
-  record-pile : pileAnswer (r .n) (recordView r) ≡ 0
-  unfolding pileAnswer _when_ _orElse_
-  record-pile = rw (tests .0, tests .1, tests .2)
-
-  pub record-facts : PileFacts (r .n) (recordView r)
-  record-facts = facts (r .n) (recordView r) record-pile
+pub record-facts : (r : Record) → recordAnswer r ≡ 0 → RecordFacts r
+unfolding recordAnswer pileAnswer
+record-facts r e =
+    let rest = orElse-rest _ _ e in
+    let range = in-range _ _ _ (when-not-done _ _ (orElse-first _ _ e)) in
+    let opening = when-not-done _ _ (orElse-first _ _ rest) in
+    let tallies = when-not-done _ _ (orElse-first _ _ (orElse-rest _ _ rest)) in
+    let covered : lawful (r .n) (recordView r) ≡ true = when-not-done _ _ (orElse-rest _ _ (orElse-rest _ _ rest)) in
+    record {
+      desks-least = range .0;
+      desks-most = range .1;
+      pile = facts (r .n) (recordView r)
+          (none-met (not-met 5 (ap not (and-left _ _ opening))) (none-met (not-met 6 (ap not (and-left _ _ tallies))) (not-met 7 (ap not covered))));
+      shares-unused = and-right _ _ opening;
+      places-unused = and-right _ _ tallies;
+    }

@@ -19,6 +19,7 @@ use Rattle.rules.proofs.Loops.Every.{every-all}
 use Rattle.rules.proofs.Loops.Refusals.{not-met, none-met, first-none, when-accepted}
 use Rattle.rules.proofs.Loops.Pieces.{flat-cong}
 use Rattle.rules.proofs.Pile.Facts.{both-all}
+use Rattle.rules.proofs.Pile.Agree.{same-opening}
 use Rattle.rules.proofs.File.Body.{Fits, lawful-fits}
 use Rattle.rules.proofs.File.Written.{front-part}
 use Rattle.rules.proofs.File.LawfulBook.{Frame, written-number, written-pile, written-readable, Lawful}
@@ -49,14 +50,12 @@ module _ (n p : ℕ) (numbers : ℕ → ℕ) (frame : Frame n p numbers) (P Q R 
   fitsQ k l = lawful-fits n (Q k) (lawfulQ k l)
 
   -- the books are of one opening
-  same-opening : (k : ℕ) → k < p → sameOpening n (pileOf own k) (pileOf copy k) ≡ true
-  unfolding sameOpening
-  same-opening k l =
+  one-opening : (k : ℕ) → k < p → sameOpening n (pileOf own k) (pileOf copy k) ≡ true
+  one-opening k l =
       let a = written-pile n p numbers frame P lawfulP k l in
       let b = written-pile n p numbers frame Q lawfulQ k l in
-      and-both (eq-eqb _ _ (a .floor ∙ merged k l .floor ∙ sym (b .floor)))
-      (and-both (eq-eqb _ _ (a .top ∙ merged k l .top ∙ sym (b .top)))
-      (every-all n (λ i m. both-all (λ s. eq-eqb _ _ (a .share s i m ∙ merged k l .share s i m ∙ sym (b .share s i m))))))
+      same-opening n _ _ (a .floor ∙ merged k l .floor ∙ sym (b .floor)) (a .top ∙ merged k l .top ∙ sym (b .top))
+      (λ s i m. a .share s i m ∙ merged k l .share s i m ∙ sym (b .share s i m))
 
   same-book : sameBook own copy ≡ true
   unfolding sameBook bookBytes
@@ -64,7 +63,7 @@ module _ (n p : ℕ) (numbers : ℕ → ℕ) (frame : Frame n p numbers) (P Q R 
       and-both (eq-eqb n n refl)
       (and-both (eq-eqb p p refl)
       (every-all p (λ k l. and-both (eq-eqb _ _ (written-number n p numbers frame P k l ∙ sym (written-number n p numbers frame Q k l)))
-      (same-opening k l))))
+      (one-opening k l))))
 
   -- no row is split, and at the taker's own desk the copy's is not later
   row-accepted : (d : ℕ) → ((k : ℕ) → k < p → RowLe n (Q k) (P k) d) → (k i : ℕ) → k < p → i < n

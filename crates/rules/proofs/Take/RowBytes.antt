@@ -1,7 +1,7 @@
 -- A desk's row as it stands in a written book, and its numbers by column.
 -- Assumes nothing.
 use Prim.Native.Nat.{ℕ, suc, _+_, _-_, _*_, _≤_, _<_}
-use native.Mathlib.Nat.{mul-le-mul-right, suc-mul, add-zero}
+use native.Mathlib.Nat.{add-zero}
 use native.Mathlib.Omega.{arith}
 use mathlib.Core.Path.{_≡_, ap, _∙_}
 use mathlib.Core.Bool.{true}
@@ -17,7 +17,7 @@ use Rattle.rules.specs.Take.{rowPart}
 use Rattle.rules.proofs.Loops.Every.{some-at}
 use Rattle.rules.proofs.Loops.Pieces.{part-flat}
 use Rattle.rules.proofs.Bytes.Numbers.{number-encode}
-use Rattle.rules.proofs.File.Body.{Fits, Fits4, by-column, row-column, length-numbers, row-length, body-rows, length-body-row}
+use Rattle.rules.proofs.File.Body.{Fits, Fits4, by-column, row-column, length-numbers, row-length, length-body-row, row-within}
 use Rattle.rules.proofs.File.Written.{part-of-body}
 
 module _ (n p : ℕ) (numbers : ℕ → ℕ) (P : ℕ → Pile) where
@@ -26,7 +26,7 @@ module _ (n p : ℕ) (numbers : ℕ → ℕ) (P : ℕ → Pile) where
   row-part k r k<p r<n =
       ap (λ (at : ℕ). part (bodyAt n p k + at) (rowLength n) (bookBytes n p numbers P)) (add-zero (r * rowLength n))
       ∙ part-of-body n p numbers P k (r * rowLength n) (rowLength n) k<p
-      (omega (arith, body-rows n, mul-le-mul-right (rowLength n) r<n, suc-mul r (rowLength n)))
+      (omega (arith, row-within n r r<n))
       ∙ part-flat (suc n) (rowLength n) (λ r. encode (bodyRow n (P k) r)) (λ r _. length-body-row n (P k) r) r r<n
 
 -- the row of desk i by columns

@@ -7,7 +7,7 @@ use lib.ListN.{getD}
 use lib.Seq.{sets, length-sets}
 use borrow.Author.Needs.{needs}
 use Rattle.rules.specs.Loops.{flat, list}
-use Rattle.rules.proofs.Bytes.Put.{sets-next}
+use Rattle.rules.proofs.Loops.Sets.{sets-next}
 use Rattle.book.proofs.given.copy_run.Statement.{statement}
 use Rattle.book.proofs.given.copy_run.Tie as tie
 

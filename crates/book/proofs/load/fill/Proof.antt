@@ -6,7 +6,7 @@ use mathlib.Core.Path.{_≡_, refl, sym}
 use lib.Seq.{sets, length-sets}
 use Rattle.rules.specs.Loops.{flat, list}
 use Rattle.rules.specs.Numbers.{number}
-use Rattle.rules.proofs.Bytes.Put.{sets-next}
+use Rattle.rules.proofs.Loops.Sets.{sets-next}
 use borrow.Author.Needs.{needs}
 use Rattle.book.proofs.load.fill.Statement.{statement}
 use Rattle.book.proofs.load.fill.Tie as tie

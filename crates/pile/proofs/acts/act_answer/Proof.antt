@@ -56,7 +56,7 @@ left c means =
     (c .rights-at .ensures
     ∙ own-passed (c .before) .before .audit-of .ensures .rights-are (own-passed (c .before) .if1 .left) (sideOf (start (c .before) .args .side)) _ (desk-passed (c .before) .if2 .left))
 
--- and the answer read is the act's tally
+-- and the number read is the act's tally
 abbrev past-rights : tie.Else6 → tie.Else5
 past-rights c = c .before .before .before
 

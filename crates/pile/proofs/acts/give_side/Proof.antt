@@ -9,7 +9,7 @@ use mathlib.Core.Path.{refl, sym, _∙_}
 use borrow.Author.Tests.{ltb-true, not-false}
 use Rattle.rules.specs.Acts.{give}
 use Rattle.rules.proofs.Loops.Logic.{or-left}
-use Rattle.rules.proofs.Record.Facts.{record-range}
+use Rattle.rules.proofs.Record.Facts.{record-facts}
 use Rattle.pile.specs.View.{asRecord, sideOf}
 
 receiver-wrong-requires : tie.Need-receiver-wrong-requires
@@ -30,7 +30,7 @@ returns c =
       receiver-is = sym (c .before .before .receiver-wrong .ensures);
       column-is = λ passed ok.
           let below : args .receiver < args .p .n = ltb-true _ _ (not-false _ (or-left _ _ (sym (c .before .before .receiver-wrong .ensures) ∙ ok))) in
-          sym (c .before .give-column .ensures .1 (omega (arith, below, record-range (asRecord (args .p)) passed .1)));
+          sym (c .before .give-column .ensures .1 (omega (arith, below, record-facts (asRecord (args .p)) passed .desks-most)));
     })
 
 pub give-side-spec : {M : Type 1} → statement M

@@ -9,8 +9,8 @@ use mathlib.Core.Path.{_≡_, refl, ap₂}
 use mathlib.Core.Bool.{true}
 use Rattle.rules.specs.Loops.{between}
 use Rattle.rules.specs.Layout.{deskLimit}
-use Rattle.rules.proofs.Loops.Logic.{holds, fails, and-left, and-right, and-left-fails, and-right-fails}
-use Rattle.pile.proofs.Verdict.{in-range, refused-2, refused-5, refused-6, refused-7, accepted}
+use Rattle.rules.proofs.Loops.Logic.{holds, fails, and-left, and-right, and-left-fails, and-right-fails, in-range}
+use Rattle.pile.proofs.Verdict.{refused-2, refused-5, refused-6, refused-7, accepted}
 
 -- The places that the last test comes from: n is in range, each side has its account, and the tests of 5 and of 6 hold.
 range : (c : tie.Else1) → between 1 deskLimit (c .before .before .args .p .n) ≡ true
@@ -48,7 +48,7 @@ slice-aggregate-account-of-2 c = search needs
 
 account-of-requires : tie.Need-account-of-requires
 account-of-requires c κs =
-    (search needs, in-range _ (range (c .before .before .before .before .before)) .1, search needs, search needs)
+    (search needs, in-range _ _ _ (range (c .before .before .before .before .before)) .1, search needs, search needs)
 
 slice-aggregate-account-of-3 : tie.Need-slice-aggregate-account-of-3
 slice-aggregate-account-of-3 c = search needs
@@ -58,7 +58,7 @@ slice-aggregate-account-of-4 c = search needs
 
 account-of-requires-2 : tie.Need-account-of-requires-2
 account-of-requires-2 c κs =
-    (search needs, in-range _ (range (ranged (c .before .before))) .1, search needs, search needs)
+    (search needs, in-range _ _ _ (range (ranged (c .before .before))) .1, search needs, search needs)
 
 slice-aggregate-opening-sound : tie.Need-slice-aggregate-opening-sound
 slice-aggregate-opening-sound c = search needs
@@ -68,7 +68,7 @@ add-opening-sound c = search needs
 
 opening-sound-requires : tie.Need-opening-sound-requires
 opening-sound-requires c κs =
-    let one = ranged (drawn (c .before .before .before)) in (in-range _ (range one) .1, search (needs, one .before .before .good .0))
+    let one = ranged (drawn (c .before .before .before)) in (in-range _ _ _ (range one) .1, search (needs, one .before .before .good .0))
 
 refused-requires-2 : tie.Need-refused-requires-2
 refused-requires-2 c κs = search needs
@@ -85,7 +85,7 @@ slice-aggregate-tallies-sound c = search (needs, ranged (drawn (accounts (c .bef
 tallies-sound-requires : tie.Need-tallies-sound-requires
 tallies-sound-requires c κs =
     let one = ranged (drawn (accounts (c .before .before))) in
-    (in-range _ (range one) .1, search (needs, one .before .before .good .0))
+    (in-range _ _ _ (range one) .1, search (needs, one .before .before .good .0))
 
 refused-requires-3 : tie.Need-refused-requires-3
 refused-requires-3 c κs = search needs
@@ -100,7 +100,7 @@ returns-3 c =
 balance-of-requires : tie.Need-balance-of-requires
 balance-of-requires c κs =
     let a = accounts (opened (c .before) .before) in
-    (in-range _ (range (ranged (drawn a))) .1, drawn a .account-of .ensures .credits-most (and-left _ _ (holds (c .before .tallies-sound .ensures) (c .if3 .left))))
+    (in-range _ _ _ (range (ranged (drawn a))) .1, drawn a .account-of .ensures .credits-most (and-left _ _ (holds (c .before .tallies-sound .ensures) (c .if3 .left))))
 
 refused-requires-4 : tie.Need-refused-requires-4
 refused-requires-4 c κs = search needs
@@ -119,7 +119,7 @@ balance-of-requires-2 : tie.Need-balance-of-requires-2
 balance-of-requires-2 c κs =
     let t = c .before .before in
     let a = accounts (opened (t .before) .before) in
-    (in-range _ (range (ranged (drawn a))) .1, a .account-of2 .ensures .credits-most (and-left _ _ (and-right _ _ (holds (t .before .tallies-sound .ensures) (t .if3 .left)))))
+    (in-range _ _ _ (range (ranged (drawn a))) .1, a .account-of2 .ensures .credits-most (and-left _ _ (and-right _ _ (holds (t .before .tallies-sound .ensures) (t .if3 .left)))))
 
 refused-requires-5 : tie.Need-refused-requires-5
 refused-requires-5 c κs = search needs

@@ -1,4 +1,4 @@
--- `all_zero` tests one answer after the other, and stops at the first that is not 0.
+-- `all_zero` tests one number after the other, and stops at the first that is not 0.
 -- Assumes nothing.
 use Prim.Native.Nat.{_+_, _-_, _≤_}
 use native.Mathlib.Omega.{arith}
