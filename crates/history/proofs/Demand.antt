@@ -1,13 +1,15 @@
 -- Demand 3 from the five laws: every state is the lone dispatcher's, so its answers are too, and equal states have the same acts.
 -- Assumes nothing.
-use Prim.Native.Nat.{ℕ}
-use mathlib.Core.Path.{_≡_, sym, _∙_, ap, ap₂, fun-ext}
+use Prim.Native.Nat.{ℕ, _≤_, _<_}
+use mathlib.Core.Path.{_≡_, sym, _∙_, ap, ap₂, fun-ext, subst⁻¹}
 use mathlib.Core.Logic.{inl, inr, ⊎-elim}
+use mathlib.Core.Bool.{Bool, true, false, cond}
 use mathlib.Core.List.{[], _∷_}
 use lib.ListN.{length}
-use Rattle.history.specs.Replica.{Replica, act, take, Valid}
-use Rattle.history.specs.Ledger.{Acts, lone}
-use Rattle.history.specs.Claim.{ActsAnswered, TakesAccepted, Demand3}
+use Rattle.history.specs.Replica.{Replica, Call, act, take, Valid}
+use Rattle.history.specs.Books.{books}
+use Rattle.history.specs.Ledger.{Acts, enter, lone}
+use Rattle.history.specs.Claim.{IfMember, Enters, Accepted, ActsAnswered, TakesAccepted, Claim, Demand3}
 use Rattle.history.proofs.Laws.{Laws}
 use Rattle.history.proofs.Sets.{same}
 use Rattle.history.proofs.Moments.{History}
@@ -52,3 +54,19 @@ demand3 R n Within start laws h v =
       answered = answered laws h v;
       taken = taken laws h v;
     }
+
+-- what the claim says of every desk at every moment: its state is within bounds
+module _ (R : Replica) (n : ℕ) (Within : R .State → Type 0) (start : R .State) where
+  entered-within : (h : History R) (S : Acts) → Accepted R n Within start h S → Within (lone R start h S)
+  unfolding lone
+  entered-within [] S a = a
+  entered-within (c ∷ h) S a = go c (S (length h)) (a .0) (entered-within h S (a .1))
+    where
+      go : (c : Call (R .Act)) (b : Bool) → IfMember b (Enters R n Within start c (lone R start h S) (cond b (enter R start c (lone R start h S)) (lone R start h S)))
+          → Within (lone R start h S) → Within (cond b (enter R start c (lone R start h S)) (lone R start h S))
+      go (act d x) true e w = e .1
+      go (take d s m) true e w = absurd e
+      go c false e w = w
+
+  pub claim-within : (h : History R) → Claim R n Within start h → (m i : ℕ) → m ≤ length h → i < n → Within (books R start h m i)
+  claim-within h claim m i l k = subst⁻¹ Within (claim .sequential m i l k) (entered-within h _ (claim .accepted m i l k))

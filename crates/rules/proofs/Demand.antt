@@ -4,3 +4,4 @@ pub mod Runs
 pub mod Monotone
 pub mod EqualBooks
 pub mod BookLaws
+pub mod Consequences

@@ -8,7 +8,7 @@ use Rattle.rules.specs.Acts.{Kind, spend, give}
 use Rattle.rules.specs.Opening.{openingAnswer, opened}
 use Rattle.rules.specs.Book.{tonnageReply, rightsReply, actAnswer}
 use Rattle.rules.specs.Take.{takeAnswer, afterTake}
-use Rattle.rules.proofs.Cases.Table.{Case, case, AllHold, all-hold, shown, actOn, enter, loops, refusals, numbers, piles, acts, layout, rows, opening, books, takes}
+use Rattle.rules.proofs.Cases.Table.{Case, case, AllHold, all-hold, shown, actOn, enter, open-loops, open-refusals, open-numbers, open-pile, open-acts, open-layout, open-rows, open-opening, open-book, open-take}
 
 -- the worked book F: 3 desks, pile 7, floor 10, top 110, draw shares 0, 0, 0, tip shares 40, 30, 30
 abbrev pub F : List ℕ
@@ -74,5 +74,5 @@ table =
     ∷ []
 
 pub cases-hold : AllHold table
-unfolding loops refusals numbers piles acts layout rows opening books takes
+unfolding open-loops open-refusals open-numbers open-pile open-acts open-layout open-rows open-opening open-book open-take
 cases-hold = all-hold table refl

@@ -15,7 +15,7 @@ use Rattle.rules.specs.Opening.{openingAnswer, opened, afterOpening}
 use Rattle.rules.specs.Book.{bookAnswer, contentsAnswer, afterContents, fetchAnswer, bodyPart, tonnageReply, rightsReply, actAnswer}
 use Rattle.rules.specs.Record.{Record, zeroRecord, recordAnswer, recordTonnageReply, recordRightsReply, recordActAnswer, fetched, storeAnswer}
 use Rattle.rules.specs.Take.{takeAnswer, afterTake}
-use Rattle.rules.proofs.Cases.Table.{Case, case, AllHold, all-hold, shown, actOn, enter, loops, refusals, numbers, piles, acts, layout, rows, opening, books, records, takes}
+use Rattle.rules.proofs.Cases.Table.{Case, case, AllHold, all-hold, shown, actOn, enter, open-loops, open-refusals, open-numbers, open-pile, open-acts, open-layout, open-rows, open-opening, open-book, open-record, open-take}
 use Rattle.rules.proofs.Cases.Letters.{F}
 
 -- H: 2 desks; pile 5 with floor 10, top 50, draw shares 4, 6, tip shares 20, 10; pile 9 with floor 0, top 8, draw shares 1, 2, tip shares 3, 2.
@@ -215,5 +215,5 @@ table =
     ∷ []
 
 pub places-hold : AllHold table
-unfolding loops refusals numbers piles acts layout rows opening books records takes
+unfolding open-loops open-refusals open-numbers open-pile open-acts open-layout open-rows open-opening open-book open-record open-take
 places-hold = all-hold table refl

@@ -69,46 +69,46 @@ abbrev pub enter : ℕ → ℕ → Kind → ℕ → List ℕ → List ℕ
 enter i pile kind t b = afterAct i (actOn pile kind t) b
 
 -- What a theorem that computes has to open: a name for each file of definitions.
-unfoldable pub loops : Unit {0}
+unfoldable pub open-loops : Unit {0}
 unfolding _and_ _or_ between sum every some index flat list
-loops = tt
+open-loops = tt
 
-unfoldable pub refusals : Unit {0}
+unfoldable pub open-refusals : Unit {0}
 unfolding _when_ _orElse_ first done reply
-refusals = tt
+open-refusals = tt
 
-unfoldable pub numbers : Unit {0}
+unfoldable pub open-numbers : Unit {0}
 unfolding number bytes encode
-numbers = tt
+open-numbers = tt
 
-unfoldable pub piles : Unit {0}
+unfoldable pub open-pile : Unit {0}
 unfolding bothSides credit debit rights lawful tonnage openingLawful talliesLawful pileAnswer sameOpening
-piles = tt
+open-pile = tt
 
-unfoldable pub acts : Unit {0}
+unfoldable pub open-acts : Unit {0}
 unfolding actRefusal
-acts = tt
+open-acts = tt
 
-unfoldable pub layout : Unit {0}
+unfoldable pub open-layout : Unit {0}
 unfolding rowLength bodyLength bodyAt bookLength cellAt pileNumber position pileOf rowOf bodyRow bodyBytes entryBytes bookBytes
-layout = tt
+open-layout = tt
 
-unfoldable pub rows : Unit {0}
+unfoldable pub open-rows : Unit {0}
 unfolding atLeast alike later split isRowLength laterRow
-rows = tt
+open-rows = tt
 
-unfoldable pub opening : Unit {0}
+unfoldable pub open-opening : Unit {0}
 unfolding rising given givenPile openingAnswer opened afterOpening
-opening = tt
+open-opening = tt
 
-unfoldable pub books : Unit {0}
+unfoldable pub open-book : Unit {0}
 unfolding headSound contentsSound bookAnswer place absent contentsAnswer afterContents fetchAnswer bodyPart tonnageReply deskAnswer rightsReply actAnswer tallyAt afterAct
-books = tt
+open-book = tt
 
-unfoldable pub records : Unit {0}
+unfoldable pub open-record : Unit {0}
 unfolding unusedShares unusedPlaces recordAnswer freshAnswer recordTonnageReply recordDeskAnswer recordRightsReply recordActAnswer paddedRow recordOf fetched storeAnswer afterStore
-records = tt
+open-record = tt
 
-unfoldable pub takes : Unit {0}
+unfoldable pub open-take : Unit {0}
 unfolding rowPart sameBook rowAnswer takeAnswer takenRow taken afterTake
-takes = tt
+open-take = tt

@@ -1,0 +1,45 @@
+-- What demand 3 says of books in plain terms, so that a weaker claim would be noticed: at every moment every desk's book has each pile between floor
+-- and top, the newest copy of a desk's own book included; and there are such books of 8 desks.
+-- Assumes nothing.
+use Prim.Native.Nat.{ℕ, _≤_, _<_}
+use mathlib.Core.Path.{_≡_, refl}
+use mathlib.Core.List.{List, [], _∷_}
+use lib.ListN.{length}
+use Rattle.history.specs.Replica.{Call, take, Valid}
+use Rattle.history.specs.Books.{books}
+use Rattle.history.specs.Claim.{Demand3}
+use Rattle.history.proofs.Demand.{claim-within}
+use Rattle.history.proofs.Refuted.{own-newest-copy}
+use Rattle.rules.specs.Pile.{tonnage}
+use Rattle.rules.specs.Acts.{Act}
+use Rattle.rules.specs.Layout.{bookLength, desks, piles, pileOf}
+use Rattle.rules.specs.Opening.{openingAnswer, opened}
+use Rattle.rules.specs.Take.{takeAnswer}
+use Rattle.rules.specs.Demand.{book, Within}
+use Rattle.rules.proofs.Cases.Table.{open-loops, open-refusals, open-pile, open-layout, open-opening}
+use Rattle.rules.proofs.Demand.BookLaws.{book-demand3}
+
+module _ (n p : ℕ) (l : List ℕ) (accepted : openingAnswer n p l (bookLength n p) ≡ 0) (h : List (Call Act)) (valid : Valid n h) where
+  abbrev bookOf : ℕ → ℕ → List ℕ
+  bookOf = books book (opened n p l) h
+
+  -- no book has a pile above its top
+  pub never-above-top : (m i : ℕ) → m ≤ length h → i < n → (k : ℕ) → k < piles (bookOf m i)
+      → tonnage (desks (bookOf m i)) (pileOf (bookOf m i) k) ≤ pileOf (bookOf m i) k .top
+  never-above-top m i m≤h i<n k k<p =
+      claim-within book n Within (opened n p l) h (book-demand3 n p l accepted h valid) m i m≤h i<n k k<p .1
+
+  -- a desk that takes the copy of its own newest book is not refused
+  pub own-copy-taken : (i : ℕ) → i < n → takeAnswer i (bookOf (length h) i) (bookOf (length h) i) ≡ 0
+  own-copy-taken i i<n = book-demand3 n p l accepted (take i i (length h) ∷ h) (own-newest-copy book n i h i<n valid) .taken .0
+
+-- a book of 8 desks and one pile of 8 tonnes, each desk with one tip share
+abbrev eight : List ℕ
+eight = 1 ∷ 0 ∷ 8 ∷ 0 ∷ 0 ∷ 0 ∷ 0 ∷ 0 ∷ 0 ∷ 0 ∷ 0 ∷ 1 ∷ 1 ∷ 1 ∷ 1 ∷ 1 ∷ 1 ∷ 1 ∷ 1 ∷ []
+
+eight-accepted : openingAnswer 8 1 eight (bookLength 8 1) ≡ 0
+unfolding open-loops open-refusals open-pile open-layout open-opening
+eight-accepted = refl
+
+pub eight-desks : Demand3 book 8 Within (opened 8 1 eight)
+eight-desks = book-demand3 8 1 eight eight-accepted
