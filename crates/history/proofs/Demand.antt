@@ -57,10 +57,10 @@ demand3 R n Within start laws h v =
 
 -- what the claim says of every desk at every moment: its state is within bounds
 module _ (R : Replica) (n : ℕ) (Within : R .State → Type 0) (start : R .State) where
-  entered-within : (h : History R) (S : Acts) → Accepted R n Within start h S → Within (lone R start h S)
+  lone-within : (h : History R) (S : Acts) → Accepted R n Within start h S → Within (lone R start h S)
   unfolding lone
-  entered-within [] S a = a
-  entered-within (c ∷ h) S a = go c (S (length h)) (a .0) (entered-within h S (a .1))
+  lone-within [] S a = a
+  lone-within (c ∷ h) S a = go c (S (length h)) (a .0) (lone-within h S (a .1))
     where
       go : (c : Call (R .Act)) (b : Bool) → IfMember b (Enters R n Within start c (lone R start h S) (cond b (enter R start c (lone R start h S)) (lone R start h S)))
           → Within (lone R start h S) → Within (cond b (enter R start c (lone R start h S)) (lone R start h S))
@@ -69,4 +69,4 @@ module _ (R : Replica) (n : ℕ) (Within : R .State → Type 0) (start : R .Stat
       go c false e w = w
 
   pub claim-within : (h : History R) → Claim R n Within start h → (m i : ℕ) → m ≤ length h → i < n → Within (books R start h m i)
-  claim-within h claim m i l k = subst⁻¹ Within (claim .sequential m i l k) (entered-within h _ (claim .accepted m i l k))
+  claim-within h claim m i l k = subst⁻¹ Within (claim .sequential m i l k) (lone-within h _ (claim .accepted m i l k))

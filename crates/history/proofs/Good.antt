@@ -12,7 +12,7 @@ use lib.Dec.{eqb}
 use borrow.Author.Tests.{eqb-true}
 use Rattle.history.specs.Replica.{Replica, Call, act, take, Valid}
 use Rattle.history.specs.Books.{at}
-use Rattle.history.specs.Ledger.{Acts, gained, joined, entered, ledger}
+use Rattle.history.specs.Ledger.{Acts, gained, joined, heldAfter, ledger}
 use Rattle.history.specs.Guarantees.{_⊆_}
 use Rattle.history.proofs.Sets.{left, right, or-split}
 use Rattle.history.proofs.Moments.{History, latest, Fits, after, by-answer}
@@ -86,16 +86,16 @@ valid-before n (act d a ∷ f) h v = valid-before n f h (v .1)
 valid-before n (take d e m ∷ f) h v = valid-before n f h (v .3)
 
 module _ (R : Replica) (n : ℕ) (start : R .State) where
-  entered-sound : (c : Call (R .Act)) (h : History R) → Valid n (c ∷ h) → ((m i : ℕ) → Sound R n start (ledger R start h m i) h)
-      → Sound R n start (entered R start h c (ledger R start h)) (c ∷ h)
-  entered-sound (act d a) h v s =
+  held-sound : (c : Call (R .Act)) (h : History R) → Valid n (c ∷ h) → ((m i : ℕ) → Sound R n start (ledger R start h m i) h)
+      → Sound R n start (heldAfter R start h c (ledger R start h)) (c ∷ h)
+  held-sound (act d a) h v s =
       by-answer R start (λ S. Sound R n start S (act d a ∷ h)) h d a
       (λ f. act-joined (v .0) f (s (length h) d)) (λ _. later (s (length h) d))
-  entered-sound (take d e m) h v s = later (union (s (length h) d) (s m e))
+  held-sound (take d e m) h v s = later (union (s (length h) d) (s m e))
 
   pub ledger-sound : (h : History R) → Valid n h → (m i : ℕ) → Sound R n start (ledger R start h m i) h
   unfolding ledger at
   ledger-sound [] v m i = record { good = nil; early = λ q p. absurd (false≢true p) }
   ledger-sound (c ∷ h) v m i =
       let s = ledger-sound h (valid-before n (c ∷ []) h v) in
-      after R start (λ _ S. Sound R n start S (c ∷ h)) c h m i (later (s m i)) (later (s (length h) i)) (entered-sound c h v s)
+      after R start (λ _ S. Sound R n start S (c ∷ h)) c h m i (later (s m i)) (later (s (length h) i)) (held-sound c h v s)

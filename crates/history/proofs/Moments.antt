@@ -10,7 +10,7 @@ use lib.Dec.{leb, eqb}
 use borrow.Author.Tests.{le-leb, lt-leb, eq-eqb, eqb-true, eqb-false}
 use Rattle.history.specs.Replica.{Replica, Call, act, take, caller}
 use Rattle.history.specs.Books.{at, called, books}
-use Rattle.history.specs.Ledger.{Acts, joined, lone, entered, ledger}
+use Rattle.history.specs.Ledger.{Acts, joined, lone, heldAfter, ledger}
 use Rattle.history.specs.Guarantees.{_⊆_}
 use Rattle.history.proofs.Sets.{left, right, cases, arms}
 
@@ -29,7 +29,7 @@ module _ (R : Replica) (start : R .State) where
   -- what holds of a desk's state and set before c, and of what c gives, holds at every moment after c
   pub after : (P : R .State → Acts → Type 0) (c : Call (R .Act)) (h : History R) (m i : ℕ)
       → P (books R start h m i) (ledger R start h m i) → P (books R start h (length h) i) (latest h i)
-      → P (called R h c (books R start h)) (entered R start h c (ledger R start h))
+      → P (called R h c (books R start h)) (heldAfter R start h c (ledger R start h))
       → P (books R start (c ∷ h) m i) (ledger R start (c ∷ h) m i)
   unfolding books ledger at
   after P c h m i old kept new = arms P (leb m (length h)) old (arms P (eqb i (caller c)) new kept)
@@ -44,16 +44,16 @@ module _ (R : Replica) (start : R .State) where
     unfolding ledger at
     late m i l = rw (lt-leb m (length h) l, lt-leb (suc (length h)) (length h) (le-refl _))
 
-    pub next : (i : ℕ) → latest (c ∷ h) i ≡ cond (eqb i (caller c)) (entered R start h c (ledger R start h)) (latest h i)
+    pub next : (i : ℕ) → latest (c ∷ h) i ≡ cond (eqb i (caller c)) (heldAfter R start h c (ledger R start h)) (latest h i)
     unfolding ledger at
     next i = rw (lt-leb (suc (length h)) (length h) (le-refl _))
 
   pub by-answer : (P : Acts → Type 0) (h : History R) (d : ℕ) (a : R .Act) → (Fits h d a → P (joined (length h) (latest h d)))
-      → ((Fits h d a → ⊥) → P (latest h d)) → P (entered R start h (act d a) (ledger R start h))
+      → ((Fits h d a → ⊥) → P (latest h d)) → P (heldAfter R start h (act d a) (ledger R start h))
   by-answer P h d a fit not =
       cases P (eqb (R .actAnswer d a (lone R start h (latest h d))) 0) (λ e. fit (eqb-true _ 0 e)) (λ e. not (eqb-false _ 0 e))
 
-  keeps : (c : Call (R .Act)) (h : History R) → latest h (caller c) ⊆ entered R start h c (ledger R start h)
+  keeps : (c : Call (R .Act)) (h : History R) → latest h (caller c) ⊆ heldAfter R start h c (ledger R start h)
   keeps (act d a) h q p =
       by-answer (λ S. S q ≡ true) h d a (λ _. right (λ i. eqb i (length h)) (latest h d) q p) (λ _. p)
   keeps (take d e m) h q p = left (latest h d) (ledger R start h m e) q p

@@ -7,7 +7,7 @@ use mathlib.Core.List.{[], _∷_}
 use lib.ListN.{length}
 use Rattle.history.specs.Replica.{Replica, Call, act, take, Valid}
 use Rattle.history.specs.Books.{at, called, books}
-use Rattle.history.specs.Ledger.{Acts, gained, lone, entered, ledger}
+use Rattle.history.specs.Ledger.{Acts, gained, lone, heldAfter, ledger}
 use Rattle.history.proofs.Laws.{Laws}
 use Rattle.history.proofs.Sets.{fails}
 use Rattle.history.proofs.Moments.{History, latest, after, by-answer}
@@ -38,7 +38,7 @@ module _ {R : Replica} {n : ℕ} {Within : R .State → Type 0} {start : R .Stat
 
   called-lone : (c : Call (R .Act)) (h : History R) → Valid n (c ∷ h)
       → ((m i : ℕ) → books R start h m i ≡ lone R start h (ledger R start h m i))
-      → called R h c (books R start h) ≡ lone R start (c ∷ h) (entered R start h c (ledger R start h))
+      → called R h c (books R start h) ≡ lone R start (c ∷ h) (heldAfter R start h c (ledger R start h))
   called-lone (act d a) h v p =
       let q = ap (R .afterAct d a) (p (length h) d) in
       by-answer R start (λ T. R .afterAct d a (books R start h (length h) d) ≡ lone R start (act d a ∷ h) T) h d a

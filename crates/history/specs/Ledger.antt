@@ -36,11 +36,11 @@ module _ (R : Replica) (start : R .State) where
 
   -- What a call does to its desk's set.
   -- An act joins where the lone dispatcher, with what the desk holds, is not refused it.
-  abbrev pub entered : List (Call (R .Act)) → Call (R .Act) → (ℕ → ℕ → Acts) → Acts
-  entered h (act d a) known =
+  abbrev pub heldAfter : List (Call (R .Act)) → Call (R .Act) → (ℕ → ℕ → Acts) → Acts
+  heldAfter h (act d a) known =
       cond (eqb (R .actAnswer d a (lone h (known (length h) d))) 0) (joined (length h) (known (length h) d)) (known (length h) d)
-  entered h (take d e m) known = gained (known (length h) d) (known m e)
+  heldAfter h (take d e m) known = gained (known (length h) d) (known m e)
 
   -- the set of acts that desk i holds at moment m of the history h
   unfoldable pub ledger : List (Call (R .Act)) → ℕ → ℕ → Acts
-  ledger h m i = at none entered h m i
+  ledger h m i = at none heldAfter h m i

@@ -73,10 +73,10 @@ more r i column t =
       tallies = set (r .tallies) (i * rowPlaces + column) (getD (r .tallies) (i * rowPlaces + column) 0 + t);
     }
 
-pub entered : (r : Record) (i : ℕ) (kind : Kind) (t : ℕ) {column : ℕ} → actColumn 8 kind ≡ column → recordActAnswer i kind t r ≡ 0
+pub act-entered : (r : Record) (i : ℕ) (kind : Kind) (t : ℕ) {column : ℕ} → actColumn 8 kind ≡ column → recordActAnswer i kind t r ≡ 0
     → more r i column t ≡ recordAfterAct i kind t r
 unfolding recordAfterAct
-entered r i kind t k e =
+act-entered r i kind t k e =
     subst (λ (column : ℕ). more r i column t ≡ recordAfterAct i kind t r) k
     (sym (when-accepted _ _ _ e ∙ ap (stored r i kind t) (tally-at r i kind)))
   where

@@ -1,4 +1,5 @@
--- The book's five laws, and so demand 3.
+-- Demand 3 of the book. Grown and Runs: the book after a list of entered acts. Monotone, EqualBooks and BookLaws: its five laws, and so demand 3.
+-- Consequences: what that says of every desk's book.
 pub mod Grown
 pub mod Runs
 pub mod Monotone

@@ -1,4 +1,5 @@
--- A book's bytes: bodies, what was written is read again, readable exactly when, opened, found, one number changed.
+-- A book's bytes. Body and Written: what was written is read again. Readable: a book passes its check exactly when. LawfulBook: lawful piles make one.
+-- Then what opens a book, what finds a pile in it, and what changes it: one number (Cells, PutCell, AfterAct) or one body (PutBody). Refused: nothing.
 pub mod Body
 pub mod Written
 pub mod Readable

@@ -1,3 +1,4 @@
+-- In the order in which to read them: no group cites a later one.
 pub mod Cases
 pub mod Loops
 pub mod Bytes

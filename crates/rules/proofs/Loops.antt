@@ -1,4 +1,5 @@
--- Loops and lists: nothing here knows the book. Tests first, then lines of a table, sums, and lists made of pieces.
+-- Loops and lists: nothing here knows the book.
+-- Read Logic, Every and Refusals for what a test or an answer tells; Sums; then Ranges, Pieces, Parts and Sets for lists made of pieces.
 pub mod Logic
 pub mod Every
 pub mod Refusals

@@ -1,4 +1,5 @@
--- The record in memory against pile and file, up to fetching and storing as inverses.
+-- The record in memory. Facts, Shares and Unused: what its check tells. RecordOf, Fresh and OfBody: a pile, an opening and a body as a record.
+-- Agreeing and RoundTrip: fetching and storing are inverse.
 pub mod Facts
 pub mod Shares
 pub mod Unused

@@ -1,4 +1,4 @@
--- Later as an order, and the merge of rows and of books.
+-- The take. Order: later is a strict order. RowBytes and MergeRow: the rows of two books. Merge: the whole book that a take leaves.
 pub mod Order
 pub mod RowBytes
 pub mod MergeRow

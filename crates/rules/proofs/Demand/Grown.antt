@@ -102,10 +102,10 @@ module _ (p : ℕ) (numbers : ℕ → ℕ) (start : ℕ → Pile) where
       }
 
   -- entering one act more
-  entered : (n d q t : ℕ) (kind : Kind) (es : List (ℕ × Act)) (k : ℕ) (b : Bool) → eqb k (at p numbers q) ≡ b
+  one-more : (n d q t : ℕ) (kind : Kind) (es : List (ℕ × Act)) (k : ℕ) (b : Bool) → eqb k (at p numbers q) ≡ b
       → Agree n (cond b (acted (grown es k) d kind t) (grown es k)) (grown ((d, record { kind = kind; pile = q; amount = t }) ∷ es) k)
   unfolding acted
-  entered n d q t (spend s′) es k true e =
+  one-more n d q t (spend s′) es k true e =
       record {
         floor = refl;
         top = refl;
@@ -114,7 +114,7 @@ module _ (p : ℕ) (numbers : ℕ → ℕ) (start : ℕ → Pile) where
             (and-comm (sameSide s (other s′)) (eqb i d) ∙ ap (λ (b : Bool). eqb i d and b) (and-left-holds e (sameSide s (other s′))));
         give = λ s i j l m. tally-kept _ d _ es i _ (and-false (eqb k (at p numbers q)));
       }
-  entered n d q t (give s′ j′) es k true e =
+  one-more n d q t (give s′ j′) es k true e =
       record {
         floor = refl;
         top = refl;
@@ -123,7 +123,7 @@ module _ (p : ℕ) (numbers : ℕ → ℕ) (start : ℕ → Pile) where
         give = λ s i j l m. tally-named _ d _ es i _ (sameSide s s′ and eqb i d and eqb j j′)
             (and-swap (sameSide s s′) (eqb i d) (eqb j j′) ∙ ap (λ (b : Bool). eqb i d and b) (and-left-holds e (sameSide s s′ and eqb j j′)));
       }
-  entered n d q t kind es k false e =
+  one-more n d q t kind es k false e =
       record {
         floor = refl;
         top = refl;
@@ -134,4 +134,4 @@ module _ (p : ℕ) (numbers : ℕ → ℕ) (start : ℕ → Pile) where
 
   pub grown-acted : (n d : ℕ) (a : Act) (es : List (ℕ × Act)) (k : ℕ)
       → Agree n (actedAt (grown es) (at p numbers (a .pile)) d (a .kind) (a .amount) k) (grown ((d, a) ∷ es) k)
-  grown-acted n d a es k = entered n d (a .pile) (a .amount) (a .kind) es k (eqb k (at p numbers (a .pile))) refl
+  grown-acted n d a es k = one-more n d (a .pile) (a .amount) (a .kind) es k (eqb k (at p numbers (a .pile))) refl

@@ -1,4 +1,4 @@
--- The book after an accepted act is the book with that one pile's act entered, written anew: one number was put, and all others stand apart from it.
+-- The book after an accepted act is the book with that one pile's act tallyPut, written anew: one number was put, and all others stand apart from it.
 -- Assumes nothing.
 use Prim.Native.Nat.{ℕ, suc, _+_, _<_, suc-le-suc}
 use native.Mathlib.Nat.{suc-inj}
@@ -91,15 +91,15 @@ cond-is false y u x h g = g refl
 
 -- an act of desk i puts its tally, with t more, into one cell of pile k
 module _ (b : List ℕ) (i t k : ℕ) (i<n : i < desks b) where
-  abbrev entered : Kind → List ℕ
-  entered kind = putCell b k (suc i) (actColumn (desks b) kind) (tally (pileOf b k) i kind + t)
+  abbrev tallyPut : Kind → List ℕ
+  tallyPut kind = putCell b k (suc i) (actColumn (desks b) kind) (tally (pileOf b k) i kind + t)
 
-  abbrev Enters : Kind → Type 0
-  Enters kind = Puts b k (suc i) (actColumn (desks b) kind) (tally (pileOf b k) i kind + t)
+  abbrev PutsTally : Kind → Type 0
+  PutsTally kind = Puts b k (suc i) (actColumn (desks b) kind) (tally (pileOf b k) i kind + t)
 
   -- the pile acted on, as the bytes then have it
-  acted-agree : (kind : Kind) → Receives (desks b) i kind → Enters kind
-      → Agree (desks b) (bodyView (desks b) (entered kind) (bodyAt (desks b) (piles b) k)) (acted (pileOf b k) i kind t)
+  acted-agree : (kind : Kind) → Receives (desks b) i kind → PutsTally kind
+      → Agree (desks b) (bodyView (desks b) (tallyPut kind) (bodyAt (desks b) (piles b) k)) (acted (pileOf b k) i kind t)
   unfolding acted pileOf
   acted-agree (spend s) r h =
       record {
@@ -130,8 +130,8 @@ module _ (b : List ℕ) (i t k : ℕ) (i<n : i < desks b) where
       }
 
   -- the other piles
-  others-agree : (kind : Kind) → Enters kind → (k′ : ℕ) → k ≢ k′
-      → Agree (desks b) (bodyView (desks b) (entered kind) (bodyAt (desks b) (piles b) k′)) (pileOf b k′)
+  others-agree : (kind : Kind) → PutsTally kind → (k′ : ℕ) → k ≢ k′
+      → Agree (desks b) (bodyView (desks b) (tallyPut kind) (bodyAt (desks b) (piles b) k′)) (pileOf b k′)
   unfolding pileOf
   others-agree kind h k′ d =
       record {
@@ -146,7 +146,7 @@ module _ (i : ℕ) (a : Act) (b : List ℕ) (o : Octets b) (accepted : actAnswer
   abbrev pub pilesAfter : ℕ → Pile
   pilesAfter = actedAt (pileOf b) (place b (a .pile)) i (a .kind) (a .amount)
 
-  puts : Enters b i (a .amount) (place b (a .pile)) (act-desk i a b accepted) (a .kind)
+  puts : PutsTally b i (a .amount) (place b (a .pile)) (act-desk i a b accepted) (a .kind)
   puts =
       record {
         octets = o;
@@ -159,13 +159,13 @@ module _ (i : ℕ) (a : Act) (b : List ℕ) (o : Octets b) (accepted : actAnswer
 
   agree-after : (k : ℕ) → k < piles b
       → Agree (desks b)
-      (bodyView (desks b) (entered b i (a .amount) (place b (a .pile)) (act-desk i a b accepted) (a .kind)) (bodyAt (desks b) (piles b) k))
+      (bodyView (desks b) (tallyPut b i (a .amount) (place b (a .pile)) (act-desk i a b accepted) (a .kind)) (bodyAt (desks b) (piles b) k))
       (pilesAfter k)
   agree-after k l = go (eqb k (place b (a .pile))) refl
     where
       go : (test : Bool) → eqb k (place b (a .pile)) ≡ test
           → Agree (desks b)
-          (bodyView (desks b) (entered b i (a .amount) (place b (a .pile)) (act-desk i a b accepted) (a .kind)) (bodyAt (desks b) (piles b) k))
+          (bodyView (desks b) (tallyPut b i (a .amount) (place b (a .pile)) (act-desk i a b accepted) (a .kind)) (bodyAt (desks b) (piles b) k))
           (cond test (acted (pileOf b k) i (a .kind) (a .amount)) (pileOf b k))
       go true e =
           rw (eqb-true k (place b (a .pile)) e)

@@ -18,7 +18,6 @@ use Rattle.rules.proofs.Loops.Logic.{decided, and-both, and-left-fails,
 use Rattle.rules.proofs.Loops.Every.{every-all}
 use Rattle.rules.proofs.Loops.Refusals.{not-met, none-met, first-none, when-accepted}
 use Rattle.rules.proofs.Loops.Pieces.{flat-cong}
-use Rattle.rules.proofs.Pile.Facts.{both-all}
 use Rattle.rules.proofs.Pile.Agree.{same-opening}
 use Rattle.rules.proofs.File.Body.{Fits, lawful-fits}
 use Rattle.rules.proofs.File.Written.{front-part}

@@ -6,7 +6,7 @@ use Rattle.pile.proofs.acts.enter.Tie as tie
 use native.Mathlib.Omega.{arith}
 use mathlib.Core.Path.{sym, _∙_}
 use Rattle.rules.proofs.File.Refused.{record-act-refused}
-use Rattle.pile.proofs.ActLines.{entered}
+use Rattle.pile.proofs.ActLines.{act-entered}
 
 act-answer-requires : tie.Need-act-answer-requires
 act-answer-requires c κs = search needs
@@ -41,7 +41,7 @@ returns-2 : tie.Need-returns-2
 returns-2 c =
     λ kind means. let e = sym (c .before .if1 .left) ∙ c .before .before .act-answer .ensures .0 kind means in
     let room = c .before .before .act-answer .ensures .1 (c .before .if1 .left) in
-    (e, entered _ _ kind _ (means .column-is (room .0) (room .1)) (sym e))
+    (e, act-entered _ _ kind _ (means .column-is (room .0) (room .1)) (sym e))
 
 pub enter-spec : {M : Type 1} → statement M
 enter-spec =
