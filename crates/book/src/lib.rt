@@ -30,9 +30,10 @@ use same::same_opening;
 use save::save;
 ghost use mathlib.Core.Path.{_≡_};
 ghost use lib.ListN.{length};
+ghost use denote.Ref.{ptr};
 ghost use Rattle.rules.specs.Pile.{draw, tip};
 ghost use Rattle.rules.specs.Opening.{openingAnswer, afterOpening};
-ghost use Rattle.rules.specs.Book.{bookAnswer, fetchAnswer, bodyPart, tonnageReply, rightsReply};
+ghost use Rattle.rules.specs.Book.{bookAnswer, fetchAnswer, bodyPart, bodyStart, partPlace, tonnageReply, rightsReply};
 ghost use Rattle.rules.specs.Record.{fetched, storeAnswer, afterStore};
 ghost use Rattle.pile.specs.View.{asRecord};
 ghost use Rattle.pile.specs.Replies.{asReply};
@@ -60,7 +61,8 @@ pub fn check(book: &[u8]) -> u8
 
 // The body found for a pile number, as a part of the book: empty where fetch would refuse.
 pub fn body(book: &[u8], number: u16) -> &[u8]
-    ensures { λ r. ⌜ now r ≡ bodyPart (now (book .entry)) number ⌝ }
+    ensures bytes { λ r. ⌜ now r ≡ bodyPart (now (book .entry)) number ⌝ }
+    ensures place { λ r. ⌜ ptr r ≡ partPlace (ptr (book .entry)) (bodyStart (now (book .entry)) number) ⌝ }
 {
     let found = find(book, 0, number);
     let refusal = found.answer;
