@@ -15,6 +15,7 @@ use find::find;
 use find::load_body;
 use front::put_bodies;
 use front::put_front;
+use head::PILES;
 use layout::ENTRY;
 use layout::POSITION;
 use layout::body_at;
@@ -32,11 +33,30 @@ ghost use mathlib.Core.Path.{_≡_};
 ghost use lib.ListN.{length};
 ghost use denote.Ref.{ptr};
 ghost use Rattle.rules.specs.Pile.{draw, tip};
-ghost use Rattle.rules.specs.Opening.{openingAnswer, afterOpening};
+ghost use Rattle.rules.specs.Opening.{bufferLength, openingAnswer, afterOpening};
 ghost use Rattle.rules.specs.Book.{bookAnswer, fetchAnswer, bodyPart, bodyStart, partPlace, tonnageReply, rightsReply};
 ghost use Rattle.rules.specs.Record.{fetched, storeAnswer, afterStore};
 ghost use Rattle.pile.specs.View.{asRecord};
 ghost use Rattle.pile.specs.Replies.{asReply};
+
+// What a buffer lent to `open` must hold for a book of n desks and p piles; 0 where no book has so many, which `open` refuses with 2.
+pub fn length(n: u8, p: u8) -> usize
+    ensures { λ r. ⌜ r ≡ bufferLength n p ⌝ }
+{
+    if n < 1 {
+        return 0;
+    }
+    if Pile::DESKS < n {
+        return 0;
+    }
+    if p < 1 {
+        return 0;
+    }
+    if PILES < p {
+        return 0;
+    }
+    body_at(n as usize, p as usize, p as usize)
+}
 
 // Opens a book of n desks and p piles in a lent buffer, from a list of each pile's number, floor, top and shares.
 pub fn open(n: u8, p: u8, numbers: &[u32], out: &mut [u8]) -> u8
