@@ -8,7 +8,7 @@ use Rattle.rules.specs.Refusals.{refused, reply}
 use Rattle.rules.specs.Numbers.{part}
 use Rattle.rules.specs.Pile.{Side}
 use Rattle.rules.specs.Layout.{bodyLength, desks, piles, position, pileOf}
-use Rattle.rules.specs.Book.{bookAnswer, place, fetchAnswer, deskAnswer, bodyPart, tonnageReply, rightsReply}
+use Rattle.rules.specs.Book.{bookAnswer, place, fetchAnswer, deskAnswer, bodyPart, bodyStart, tonnageReply, rightsReply}
 use Rattle.rules.specs.Record.{Record, zeroRecord, recordOf, recordTonnageReply, recordRightsReply, fetched}
 use Rattle.rules.proofs.Loops.Refusals.{when-accepted, when-refused}
 use Rattle.rules.proofs.File.Found.{found-readable, found-desk, found-place, desk-0-fetch}
@@ -53,6 +53,10 @@ module _ (b : List ℕ) (number : ℕ) {m : ℕ} (answer : m ≡ deskAnswer 0 b 
     pub part-refused : [] ≡ bodyPart b number
     part-refused = sym (body-refused b number not-fetched)
 
+    pub start-refused : 0 ≡ bodyStart b number
+    unfolding bodyStart
+    start-refused = sym (when-refused _ _ _ not-fetched)
+
     pub tonnage-refused : refused m ≡ tonnageReply b number
     unfolding tonnageReply reply
     tonnage-refused = ap refused fetch-is ∙ sym (when-refused _ _ _ not-fetched)
@@ -68,6 +72,10 @@ module _ (b : List ℕ) (number : ℕ) {m : ℕ} (answer : m ≡ deskAnswer 0 b 
     pub part-found : {from size : ℕ} → from ≡ position b k → size ≡ bodyLength (desks b) → part from size b ≡ bodyPart b number
     unfolding bodyPart
     part-found from size = rw (from, size, at) (sym (when-accepted _ _ _ fetchable))
+
+    pub start-found : {from : ℕ} → from ≡ position b k → from ≡ bodyStart b number
+    unfolding bodyStart
+    start-found from = rw (from, at) (sym (when-accepted _ _ _ fetchable))
 
     pub tonnage-found : {r : Record} → r ≡ recordOf (desks b) (pileOf b k) → recordTonnageReply r ≡ tonnageReply b number
     unfolding tonnageReply reply

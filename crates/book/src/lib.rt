@@ -15,6 +15,7 @@ use find::find;
 use find::load_body;
 use front::put_bodies;
 use front::put_front;
+use head::PILES;
 use layout::ENTRY;
 use layout::POSITION;
 use layout::body_at;
@@ -30,14 +31,34 @@ use same::same_opening;
 use save::save;
 ghost use mathlib.Core.Path.{_≡_};
 ghost use lib.ListN.{length};
+ghost use denote.Ref.{ptr};
 ghost use Rattle.rules.specs.Pile.{draw, tip};
-ghost use Rattle.rules.specs.Opening.{openingAnswer, afterOpening};
-ghost use Rattle.rules.specs.Book.{bookAnswer, fetchAnswer, bodyPart, tonnageReply, rightsReply};
+ghost use Rattle.rules.specs.Opening.{bufferLength, openingAnswer, afterOpening};
+ghost use Rattle.rules.specs.Book.{bookAnswer, fetchAnswer, bodyPart, bodyStart, partPlace, tonnageReply, rightsReply};
 ghost use Rattle.rules.specs.Record.{fetched, storeAnswer, afterStore};
 ghost use Rattle.pile.specs.View.{asRecord};
 ghost use Rattle.pile.specs.Replies.{asReply};
 
-// Opens a book of n desks and p piles in a lent buffer, from a list of each pile's number, floor, top and shares.
+// What a buffer lent to `open` must hold for a book of n desks and p piles: 0 where n or p is out of range, which `open` refuses with 2.
+pub fn length(n: u8, p: u8) -> usize
+    ensures { λ r. ⌜ r ≡ bufferLength n p ⌝ }
+{
+    if n < 1 {
+        return 0;
+    }
+    if Pile::DESKS < n {
+        return 0;
+    }
+    if p < 1 {
+        return 0;
+    }
+    if PILES < p {
+        return 0;
+    }
+    body_at(n as usize, p as usize, p as usize)
+}
+
+// Opens a book of n desks and p piles in a lent buffer, from a list of each pile's number, floor, top and shares; refused with 2, 3, 4, 5 or 8.
 pub fn open(n: u8, p: u8, numbers: &[u32], out: &mut [u8]) -> u8
     ensures answer { λ r. ⌜ r ≡ openingAnswer n p (now (numbers .entry)) (length (now (out .entry))) ⌝ }
     ensures out { λ r. ⌜ now (out .exit) ≡ afterOpening n p (now (numbers .entry)) (now (out .entry)) ⌝ }
@@ -58,9 +79,10 @@ pub fn check(book: &[u8]) -> u8
     book_answer(book)
 }
 
-// The body found for a pile number, as a part of the book: empty where fetch would refuse.
+// The body found for a pile number, as the part of the book at its contents position; empty, at the book's start, where `fetch` is refused, with 1 to 7 or 10.
 pub fn body(book: &[u8], number: u16) -> &[u8]
-    ensures { λ r. ⌜ now r ≡ bodyPart (now (book .entry)) number ⌝ }
+    ensures bytes { λ r. ⌜ now r ≡ bodyPart (now (book .entry)) number ⌝ }
+    ensures place { λ r. ⌜ ptr r ≡ partPlace (ptr (book .entry)) (bodyStart (now (book .entry)) number) ⌝ }
 {
     let found = find(book, 0, number);
     let refusal = found.answer;
@@ -73,7 +95,7 @@ pub fn body(book: &[u8], number: u16) -> &[u8]
     &book[at..at + size]
 }
 
-// The pile of a number, as a record.
+// The pile of a number, as a record; refused with 1 to 7 or 10, and then all zeros.
 pub fn fetch(book: &[u8], number: u16) -> Outcome
     ensures answer { λ r. ⌜ r .answer ≡ fetchAnswer (now (book .entry)) number ⌝ }
     ensures pile { λ r. ⌜ asRecord (r .pile) ≡ fetched (now (book .entry)) number ⌝ }
@@ -93,7 +115,7 @@ pub fn fetch(book: &[u8], number: u16) -> Outcome
     }
 }
 
-// Stores a record as the body of its pile, whose n and opening it must have.
+// Stores a record as the body of its pile; refused with 1 to 7 or 10 for the book, then 2, 5, 6 or 7 for the record, then 30 where n or opening differs.
 pub fn store(book: &mut [u8], number: u16, pile: Pile) -> u8
     ensures answer { λ r. ⌜ r ≡ storeAnswer (now (book .entry)) number (asRecord pile) ⌝ }
     ensures book { λ r. ⌜ now (book .exit) ≡ afterStore (now (book .entry)) number (asRecord pile) ⌝ }
@@ -121,6 +143,7 @@ pub fn store(book: &mut [u8], number: u16, pile: Pile) -> u8
     0
 }
 
+// The tonnage of a pile now; refused with 1 to 7 or 10.
 pub fn tonnage(book: &[u8], number: u16) -> Amount
     ensures { λ r. ⌜ asReply r ≡ tonnageReply (now (book .entry)) number ⌝ }
 {
@@ -134,12 +157,14 @@ pub fn tonnage(book: &[u8], number: u16) -> Amount
     pile.tonnage()
 }
 
+// A desk's draw rights of a pile; refused with 1 to 7, 11 or 10.
 pub fn draw_rights(book: &[u8], desk: u8, number: u16) -> Amount
     ensures { λ r. ⌜ asReply r ≡ rightsReply draw desk (now (book .entry)) number ⌝ }
 {
     rights_of(book, 0, desk, number)
 }
 
+// A desk's tip rights of a pile; refused with 1 to 7, 11 or 10.
 pub fn tip_rights(book: &[u8], desk: u8, number: u16) -> Amount
     ensures { λ r. ⌜ asReply r ≡ rightsReply tip desk (now (book .entry)) number ⌝ }
 {

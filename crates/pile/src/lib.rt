@@ -59,7 +59,7 @@ impl Pile {
 
     pub const AMOUNT_LIMIT: u32 = 1_000;
 
-    // A fresh record, with all tallies 0: refused, all zeros.
+    // A fresh record, with all tallies 0; refused with 2 or 5, and then all zeros.
     pub fn fresh(n: u8, floor: u32, top: u32, shares: [u32; SHARES]) -> Outcome
         ensures answer { λ r. ⌜ r .answer ≡ freshAnswer n floor top shares ⌝ }
         ensures pile { λ r. ⌜ asRecord (r .pile) ≡ freshRecord n floor top shares ⌝ }
@@ -102,24 +102,28 @@ impl Pile {
         audit.answer
     }
 
+    // A desk's draw rights; refused with 2, 5, 6, 7 or 11.
     pub fn draw_rights(self, desk: u8) -> Amount
         ensures { λ r. ⌜ asReply r ≡ recordRightsReply draw desk (asRecord self) ⌝ }
     {
         rights_of(self, 0, desk)
     }
 
+    // A desk's tip rights; refused with 2, 5, 6, 7 or 11.
     pub fn tip_rights(self, desk: u8) -> Amount
         ensures { λ r. ⌜ asReply r ≡ recordRightsReply tip desk (asRecord self) ⌝ }
     {
         rights_of(self, 1, desk)
     }
 
+    // The tonnage now; refused with 2, 5, 6 or 7.
     pub fn tonnage(self) -> Amount
         ensures { λ r. ⌜ asReply r ≡ recordTonnageReply (asRecord self) ⌝ }
     {
         tonnage_of(self)
     }
 
+    // The record after a desk tips; refused with 2, 5, 6, 7, 11, 13, 14 or 15, and then unaltered.
     pub fn tip(self, desk: u8, amount: u32) -> Outcome
         ensures answer { λ r. ⌜ r .answer ≡ recordActAnswer desk (spend tip) amount (asRecord self) ⌝ }
         ensures pile { λ r. ⌜ asRecord (r .pile) ≡ recordAfterAct desk (spend tip) amount (asRecord self) ⌝ }
@@ -127,6 +131,7 @@ impl Pile {
         spend_side(self, 1, desk, amount)
     }
 
+    // The record after a desk draws; refused with 2, 5, 6, 7, 11, 13, 14 or 15, and then unaltered.
     pub fn draw(self, desk: u8, amount: u32) -> Outcome
         ensures answer { λ r. ⌜ r .answer ≡ recordActAnswer desk (spend draw) amount (asRecord self) ⌝ }
         ensures pile { λ r. ⌜ asRecord (r .pile) ≡ recordAfterAct desk (spend draw) amount (asRecord self) ⌝ }
@@ -134,6 +139,7 @@ impl Pile {
         spend_side(self, 0, desk, amount)
     }
 
+    // The record after a desk gives draw rights; refused with 2, 5, 6, 7 or 11 to 15, and then unaltered.
     pub fn give_draw(self, desk: u8, receiver: u8, amount: u32) -> Outcome
         ensures answer { λ r. ⌜ r .answer ≡ recordActAnswer desk (give draw receiver) amount (asRecord self) ⌝ }
         ensures pile { λ r. ⌜ asRecord (r .pile) ≡ recordAfterAct desk (give draw receiver) amount (asRecord self) ⌝ }
@@ -141,6 +147,7 @@ impl Pile {
         give_side(self, 0, desk, receiver, amount)
     }
 
+    // The record after a desk gives tip rights; refused with 2, 5, 6, 7 or 11 to 15, and then unaltered.
     pub fn give_tip(self, desk: u8, receiver: u8, amount: u32) -> Outcome
         ensures answer { λ r. ⌜ r .answer ≡ recordActAnswer desk (give tip receiver) amount (asRecord self) ⌝ }
         ensures pile { λ r. ⌜ asRecord (r .pile) ≡ recordAfterAct desk (give tip receiver) amount (asRecord self) ⌝ }

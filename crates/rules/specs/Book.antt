@@ -56,6 +56,14 @@ fetchAnswer b number = bookAnswer b orElse 10 when absent b number
 unfoldable pub bodyPart : List ℕ → ℕ → List ℕ
 bodyPart b number = done (fetchAnswer b number) (part (position b (place b number)) (bodyLength (desks b)) b) []
 
+-- where that part starts in the book: at the position that the contents has; the empty part of a refused call starts where the book does
+unfoldable pub bodyStart : List ℕ → ℕ → ℕ
+bodyStart b number = done (fetchAnswer b number) (position b (place b number)) 0
+
+-- where the part of a lent slice of bytes lies that starts at a position: in the slice's block, so many bytes past the slice's offset
+abbrev pub partPlace : ℕ × ℕ → ℕ → ℕ × ℕ
+partPlace (block, offset) at = (block, at + offset)
+
 unfoldable pub tonnageReply : List ℕ → ℕ → Reply
 tonnageReply b number = reply (fetchAnswer b number) (tonnage (desks b) (pileOf b (place b number)))
 

@@ -1,7 +1,7 @@
 -- Opening a book from n, p and a list of 4-byte numbers: for each pile its number, floor, top and shares. Tallies start at 0.
 -- Assumes nothing.
 use Prim.Native.Nat.{ℕ, zero, suc, _+_, _*_}
-use mathlib.Core.Bool.{Bool, not}
+use mathlib.Core.Bool.{Bool, cond, not}
 use mathlib.Core.List.{List}
 use lib.ListN.{length, getD}
 use lib.Dec.{leb, ltb, eqb}
@@ -33,10 +33,18 @@ givenPile n l k =
       give = λ s i j. 0;
     }
 
+-- are there books of n desks and p piles
+abbrev pub sizesInRange : ℕ → ℕ → Bool
+sizesInRange n p = between 1 deskLimit n and between 1 pileLimit p
+
+-- what a buffer for a book of n desks and p piles must hold; 0 where there is no such book
+unfoldable pub bufferLength : ℕ → ℕ → ℕ
+bufferLength n p = cond (sizesInRange n p) (bookLength n p) 0
+
 -- "Opening": 2, 3, 4, 5 by pile, and 8 where the lent output has less room than the book needs
 unfoldable pub openingAnswer : ℕ → ℕ → List ℕ → ℕ → ℕ
 openingAnswer n p l room =
-    2 when not (between 1 deskLimit n and between 1 pileLimit p)
+    2 when not (sizesInRange n p)
     orElse 3 when not (eqb (length l) (p * (3 + 2 * n)))
     orElse 4 when not (rising p (λ k. given n l k 0))
     orElse first p (λ k. 5 when not (openingLawful n (givenPile n l k)))

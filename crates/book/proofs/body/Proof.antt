@@ -6,11 +6,11 @@ use mathlib.Core.Path.{_≡_, ap, _∙_}
 use lib.ListN.{length}
 use Rattle.rules.specs.Numbers.{part}
 use Rattle.rules.specs.Layout.{desks, piles, position}
-use Rattle.rules.specs.Book.{bookAnswer}
+use Rattle.rules.specs.Book.{bookAnswer, partPlace}
 use Rattle.rules.proofs.File.Readable.{BookFacts, book-facts}
 use borrow.Author.Needs.{needs}
 use Rattle.book.proofs.Lengths.{body-within}
-use Rattle.book.proofs.Replies.{place-is, part-refused, part-found}
+use Rattle.book.proofs.Replies.{place-is, part-refused, start-refused, part-found, start-found}
 use Rattle.book.proofs.body.Statement.{statement}
 use Rattle.book.proofs.body.Tie as tie
 
@@ -53,7 +53,10 @@ part-result-end : tie.Need-part-result-end
 part-result-end c = search needs
 
 returns : tie.Need-returns
-returns c = part-refused _ _ (c .before .before .find .ensures .0) (c .before .if1 .taken)
+returns c =
+    let f = c .before .before .find .ensures in
+    let d = c .before .if1 .taken in
+    (part-refused _ _ (f .0) d, ap (partPlace (c .before .before .before .before .args .book .ptr)) (start-refused _ _ (f .0) d))
 
 mul-get4 : tie.Need-mul-get4
 mul-get4 c = search (needs, placed c .1, facts c .piles-most)
@@ -86,18 +89,22 @@ part-result-start-2 : tie.Need-part-result-start-2
 part-result-start-2 c = search needs
 
 part-result-end-2 : tie.Need-part-result-end-2
-part-result-end-2 c = within c
+part-result-end-2 c = search (needs, within c)
 
 returns-2 : tie.Need-returns-2
 returns-2 c =
     let last = c .before in
     let one = last .before .before .before in
+    let book = start one .args .book in
     let f = one .before .find .ensures in
     let from = last .before .before .get4 .result in
     let size = last .body-length .result in
     let long : from + size - from ≡ size = omega arith in
-    ap (λ (n : ℕ). part from n (start one .args .book .now)) long
-    ∙ part-found _ _ (f .0) (one .if1 .left) (f .1 (one .if1 .left)) (starts (last .before .before)) (last .body-length .ensures)
+    let begins = starts (last .before .before) in
+    let k-is = f .1 (one .if1 .left) in (
+      ap (λ (n : ℕ). part from n (book .now)) long ∙ part-found _ _ (f .0) (one .if1 .left) k-is begins (last .body-length .ensures),
+      ap (partPlace (book .ptr)) (start-found _ _ (f .0) (one .if1 .left) k-is begins),
+    )
 
 pub body-spec : {M : Type 1} → statement M
 body-spec =
