@@ -7,18 +7,18 @@ use mathlib.Core.List.{List, [], _++_}
 use lib.ListN.{length, getD, drop}
 use lib.Dec.{ltb, eqb}
 use lib.Seq.{sets}
-use Rattle.rules.specs.Loops.{_and_, between, every, index, list}
+use Rattle.rules.specs.Loops.{_and_, every, index, list}
 use Rattle.rules.specs.Refusals.{_when_, _orElse_, first, done, Reply, reply}
 use Rattle.rules.specs.Numbers.{bytes, part}
 use Rattle.rules.specs.Pile.{Side, pileAnswer, rights, tonnage}
 use Rattle.rules.specs.Acts.{Act, tally, actRefusal}
-use Rattle.rules.specs.Layout.{deskLimit, pileLimit, bodyLength, bodyAt, bookLength, cellAt, actColumn, desks, piles, pileNumber, position, pileOf}
+use Rattle.rules.specs.Layout.{bodyLength, bodyAt, bookLength, cellAt, actColumn, desks, piles, pileNumber, position, pileOf, sizesInRange}
 use Rattle.rules.specs.Opening.{rising}
 
 -- version 1, n, p, 0
 unfoldable pub headSound : List ℕ → Bool
 headSound b =
-    eqb (getD b 0 0) 1 and between 1 deskLimit (desks b) and between 1 pileLimit (piles b) and eqb (getD b 3 0) 0
+    eqb (getD b 0 0) 1 and sizesInRange (desks b) (piles b) and eqb (getD b 3 0) 0
 
 unfoldable pub contentsSound : List ℕ → Bool
 contentsSound b =
@@ -59,10 +59,6 @@ bodyPart b number = done (fetchAnswer b number) (part (position b (place b numbe
 -- where that part starts in the book: at the position that the contents has; the empty part of a refused call starts where the book does
 unfoldable pub bodyStart : List ℕ → ℕ → ℕ
 bodyStart b number = done (fetchAnswer b number) (position b (place b number)) 0
-
--- where the part of a lent slice of bytes lies that starts at a position: in the slice's block, so many bytes past the slice's offset
-abbrev pub partPlace : ℕ × ℕ → ℕ → ℕ × ℕ
-partPlace (block, offset) at = (block, at + offset)
 
 unfoldable pub tonnageReply : List ℕ → ℕ → Reply
 tonnageReply b number = reply (fetchAnswer b number) (tonnage (desks b) (pileOf b (place b number)))

@@ -1,9 +1,10 @@
 -- "Bytes" of document 01: where each number of a file stands, and a file written from its parts.
 -- Assumes nothing.
 use Prim.Native.Nat.{ℕ, zero, suc, _+_, _*_}
+use mathlib.Core.Bool.{Bool}
 use mathlib.Core.List.{List, [], _∷_, _++_}
 use lib.ListN.{getD}
-use Rattle.rules.specs.Loops.{flat, list}
+use Rattle.rules.specs.Loops.{_and_, between, flat, list}
 use Rattle.rules.specs.Numbers.{number, bytes, encode}
 use Rattle.rules.specs.Pile.{Side, draw, tip, other, Pile}
 use Rattle.rules.specs.Acts.{Kind, spend, give}
@@ -17,6 +18,9 @@ pileLimit = 32
 
 abbrev pub pileNumberLimit : ℕ
 pileNumberLimit = 65535
+
+unfoldable pub sizesInRange : ℕ → ℕ → Bool
+sizesInRange n p = between 1 deskLimit n and between 1 pileLimit p
 
 -- A body is n + 1 rows of 2(n + 1) numbers: row 0 is the opening, row i + 1 belongs to desk i. A record's rows have the columns of 8 desks.
 abbrev pub columns : ℕ → ℕ

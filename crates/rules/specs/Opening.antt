@@ -6,10 +6,10 @@ use mathlib.Core.List.{List}
 use lib.ListN.{length, getD}
 use lib.Dec.{leb, ltb, eqb}
 use lib.Seq.{sets}
-use Rattle.rules.specs.Loops.{_and_, between, every}
+use Rattle.rules.specs.Loops.{_and_, every}
 use Rattle.rules.specs.Refusals.{_when_, _orElse_, first, done}
 use Rattle.rules.specs.Pile.{Pile, openingLawful}
-use Rattle.rules.specs.Layout.{deskLimit, pileLimit, pileNumberLimit, column, bookLength, bookBytes}
+use Rattle.rules.specs.Layout.{pileNumberLimit, column, bookLength, bookBytes, sizesInRange}
 
 -- pile numbers are 1 to 65,535, strictly rising: each is above the one before it, the first above 0
 abbrev pub previous : (ℕ → ℕ) → ℕ → ℕ
@@ -32,10 +32,6 @@ givenPile n l k =
       earned = λ s i. 0;
       give = λ s i j. 0;
     }
-
--- are there books of n desks and p piles
-abbrev pub sizesInRange : ℕ → ℕ → Bool
-sizesInRange n p = between 1 deskLimit n and between 1 pileLimit p
 
 -- what a buffer for a book of n desks and p piles must hold; 0 where there is no such book
 unfoldable pub bufferLength : ℕ → ℕ → ℕ

@@ -11,8 +11,8 @@ use Rattle.rules.specs.Numbers.{bytes, encode}
 use Rattle.rules.specs.Pile.{draw, tip, tallyLimit}
 use Rattle.rules.specs.Acts.{spend, give}
 use Rattle.rules.specs.Rows.{laterRow}
-use Rattle.rules.specs.Opening.{openingAnswer, opened, afterOpening}
-use Rattle.rules.specs.Book.{bookAnswer, contentsAnswer, afterContents, fetchAnswer, bodyPart, tonnageReply, rightsReply, actAnswer}
+use Rattle.rules.specs.Opening.{bufferLength, openingAnswer, opened, afterOpening}
+use Rattle.rules.specs.Book.{bookAnswer, contentsAnswer, afterContents, fetchAnswer, bodyPart, bodyStart, tonnageReply, rightsReply, actAnswer}
 use Rattle.rules.specs.Record.{Record, zeroRecord, recordAnswer, recordTonnageReply, recordRightsReply, recordActAnswer, fetched, storeAnswer}
 use Rattle.rules.specs.Take.{takeAnswer, afterTake}
 use Rattle.rules.proofs.Cases.Table.{Case, case, AllHold, all-hold, shown, actOn, enter, open-loops, open-refusals, open-numbers, open-pile, open-acts, open-layout, open-rows, open-opening, open-book, open-record, open-take}
@@ -123,6 +123,9 @@ table =
     ∷ openingAnswer 2 2 (pile5 ++ pile9) 160
     ∷ drop 159 (afterOpening 2 2 (pile5 ++ pile9) (list 163 (λ k. k))))
     (2 ∷ 2 ∷ 3 ∷ 4 ∷ 4 ∷ 5 ∷ 8 ∷ 0 ∷ 0 ∷ 160 ∷ 161 ∷ 162 ∷ [])
+    ∷ case "The length of a book to open; 0 where there is none"
+    (bufferLength 1 1 ∷ bufferLength 8 32 ∷ bufferLength 0 1 ∷ bufferLength 9 1 ∷ bufferLength 1 0 ∷ bufferLength 1 33 ∷ [])
+    (42 ∷ 20932 ∷ 0 ∷ 0 ∷ 0 ∷ 0 ∷ [])
     ∷ case "Lent output: contents shorter than the piles meet 8, the book's own before it"
     (contentsAnswer (take 159 H) 0 ∷ contentsAnswer H 1 ∷ contentsAnswer H 2 ∷ [])
     (3 ∷ 8 ∷ 0 ∷ [])
@@ -164,9 +167,11 @@ table =
     ++ fetchAnswer (take 159 H) 6
     ∷ fetchAnswer H 6
     ∷ fetchAnswer H 9
+    ∷ bodyStart H 6
+    ∷ bodyStart H 9
     ∷ bodyPart H 6
     ++ bodyPart H 9)
-    (3 ∷ 10 ∷ 0 ∷ 3 ∷ 2 ∷ 3 ∷ 10 ∷ 0 ∷ drop 88 H)
+    (3 ∷ 10 ∷ 0 ∷ 3 ∷ 2 ∷ 3 ∷ 10 ∷ 0 ∷ 0 ∷ 88 ∷ drop 88 H)
     ∷ case "Store: the book's own, 10, the record's own, 30 for n and for the opening"
     (storeAnswer (take 159 H) 6 zeroRecord
     ∷ storeAnswer H 6 zeroRecord

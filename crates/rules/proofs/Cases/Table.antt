@@ -12,10 +12,10 @@ use Rattle.rules.specs.Refusals.{_when_, _orElse_, first, done, Reply, r
 use Rattle.rules.specs.Numbers.{number, bytes, encode}
 use Rattle.rules.specs.Pile.{bothSides, credit, debit, rights, lawful, tonnage, openingLawful, talliesLawful, pileAnswer, sameOpening}
 use Rattle.rules.specs.Acts.{Kind, Act, actRefusal}
-use Rattle.rules.specs.Layout.{rowLength, bodyLength, bodyAt, bookLength, cellAt, pileNumber, position, pileOf, rowOf, bodyRow, bodyBytes, entryBytes, bookBytes}
+use Rattle.rules.specs.Layout.{sizesInRange, rowLength, bodyLength, bodyAt, bookLength, cellAt, pileNumber, position, pileOf, rowOf, bodyRow, bodyBytes, entryBytes, bookBytes}
 use Rattle.rules.specs.Rows.{atLeast, alike, later, split, isRowLength, laterRow}
-use Rattle.rules.specs.Opening.{rising, given, givenPile, openingAnswer, opened, afterOpening}
-use Rattle.rules.specs.Book.{headSound, contentsSound, bookAnswer, place, absent, contentsAnswer, afterContents, fetchAnswer, bodyPart, tonnageReply, deskAnswer, rightsReply, actAnswer, tallyAt, afterAct}
+use Rattle.rules.specs.Opening.{rising, given, givenPile, bufferLength, openingAnswer, opened, afterOpening}
+use Rattle.rules.specs.Book.{headSound, contentsSound, bookAnswer, place, absent, contentsAnswer, afterContents, fetchAnswer, bodyPart, bodyStart, tonnageReply, deskAnswer, rightsReply, actAnswer, tallyAt, afterAct}
 use Rattle.rules.specs.Record.{unusedShares, unusedPlaces, recordAnswer, freshAnswer, recordTonnageReply, recordDeskAnswer, recordRightsReply, recordActAnswer, paddedRow, recordOf, fetched, storeAnswer, afterStore}
 use Rattle.rules.specs.Take.{rowPart, sameBook, rowAnswer, takeAnswer, takenRow, taken, afterTake}
 
@@ -90,7 +90,7 @@ unfolding actRefusal
 open-acts = tt
 
 unfoldable pub open-layout : Unit {0}
-unfolding rowLength bodyLength bodyAt bookLength cellAt pileNumber position pileOf rowOf bodyRow bodyBytes entryBytes bookBytes
+unfolding sizesInRange rowLength bodyLength bodyAt bookLength cellAt pileNumber position pileOf rowOf bodyRow bodyBytes entryBytes bookBytes
 open-layout = tt
 
 unfoldable pub open-rows : Unit {0}
@@ -98,11 +98,11 @@ unfolding atLeast alike later split isRowLength laterRow
 open-rows = tt
 
 unfoldable pub open-opening : Unit {0}
-unfolding rising given givenPile openingAnswer opened afterOpening
+unfolding rising given givenPile bufferLength openingAnswer opened afterOpening
 open-opening = tt
 
 unfoldable pub open-book : Unit {0}
-unfolding headSound contentsSound bookAnswer place absent contentsAnswer afterContents fetchAnswer bodyPart tonnageReply deskAnswer rightsReply actAnswer tallyAt afterAct
+unfolding headSound contentsSound bookAnswer place absent contentsAnswer afterContents fetchAnswer bodyPart bodyStart tonnageReply deskAnswer rightsReply actAnswer tallyAt afterAct
 open-book = tt
 
 unfoldable pub open-record : Unit {0}

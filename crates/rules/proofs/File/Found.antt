@@ -32,5 +32,5 @@ pub desk-0-fetch : (b : List ℕ) (number : ℕ) → deskAnswer 0 b number ≡ f
 unfolding deskAnswer fetchAnswer _when_ _orElse_
 desk-0-fetch b number =
     by-cases (ℕ-discrete (bookAnswer b) 0)
-    (λ e. rw (e, lt-ltb 0 (desks b) (book-facts b e .desks-least)))
+    (λ e. rw (e, lt-ltb 0 (desks b) (book-facts b e .sizes .desks-least)))
     (λ d. orElse-stands _ _ d ∙ sym (orElse-stands _ _ d))

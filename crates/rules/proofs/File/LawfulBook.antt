@@ -1,6 +1,6 @@
 -- A book written from lawful piles under rising numbers is readable, and its bytes are bytes.
 -- Assumes nothing.
-use Prim.Native.Nat.{ℕ, zero, suc, _≤_, _<_}
+use Prim.Native.Nat.{ℕ, zero, suc, _<_}
 use native.Mathlib.Omega.{arith}
 use mathlib.Core.Path.{_≡_, refl, ap, _∙_}
 use mathlib.Core.Bool.{true}
@@ -9,7 +9,7 @@ use lib.Dec.{lit<, eqb}
 use Rattle.rules.specs.Loops.{flat, index}
 use Rattle.rules.specs.Numbers.{bytes, encode}
 use Rattle.rules.specs.Pile.{Pile}
-use Rattle.rules.specs.Layout.{deskLimit, pileLimit, bodyAt, desks, piles, pileNumber, pileOf, bodyBytes, bodyRow, entryBytes, bookBytes}
+use Rattle.rules.specs.Layout.{bodyAt, desks, piles, pileNumber, pileOf, bodyBytes, bodyRow, entryBytes, bookBytes}
 use Rattle.rules.specs.Opening.{rising}
 use Rattle.rules.specs.Book.{bookAnswer, place}
 use Rattle.rules.proofs.Loops.Every.{index-cong}
@@ -18,26 +18,16 @@ use Rattle.rules.proofs.Pile.Facts.{PileFacts, passes}
 use Rattle.rules.proofs.Pile.Agree.{Agree, agree-sym, facts-cong}
 use Rattle.rules.proofs.File.Body.{lawful-fits}
 use Rattle.rules.proofs.File.Written.{length-book, read-number, read-position, read-pile}
-use Rattle.rules.proofs.File.Readable.{BookFacts, book-passes, lengths}
+use Rattle.rules.proofs.File.Readable.{Sizes, BookFacts, book-passes, lengths}
 use Rattle.rules.proofs.File.Rising.{rising-cong, number-most}
 
 -- the numbers of desks and piles are in range, and the pile numbers rise
 pub record Frame (n p : ℕ) (numbers : ℕ → ℕ) : Type 0 where
-  pub desks-least : 1 ≤ n
-  pub desks-most : n ≤ deskLimit
-  pub piles-least : 1 ≤ p
-  pub piles-most : p ≤ pileLimit
+  pub sizes : Sizes n p
   pub rises : rising p numbers ≡ true
 
 pub readable-frame : (b : List ℕ) → BookFacts b → Frame (desks b) (piles b) (pileNumber b)
-readable-frame b f =
-    record {
-      desks-least = f .desks-least;
-      desks-most = f .desks-most;
-      piles-least = f .piles-least;
-      piles-most = f .piles-most;
-      rises = f .rises;
-    }
+readable-frame b f = record { sizes = f .sizes; rises = f .rises }
 
 abbrev pub Lawful : ℕ → ℕ → (ℕ → Pile) → Type 0
 Lawful n p P = (k : ℕ) → k < p → PileFacts n (P k)
@@ -57,8 +47,8 @@ module _ (n p : ℕ) (numbers : ℕ → ℕ) (frame : Frame n p numbers) (pile :
     where
       head : Octets (1 ∷ n ∷ p ∷ 0 ∷ [])
       head zero = lit< tt
-      head (suc zero) = omega (arith, frame .desks-most)
-      head (suc (suc zero)) = omega (arith, frame .piles-most)
+      head (suc zero) = omega (arith, frame .sizes .desks-most)
+      head (suc (suc zero)) = omega (arith, frame .sizes .piles-most)
       head (suc (suc (suc zero))) = lit< tt
       head (suc (suc (suc (suc k)))) = lit< tt
 
@@ -76,15 +66,12 @@ module _ (n p : ℕ) (numbers : ℕ → ℕ) (frame : Frame n p numbers) (pile :
     pub written-facts : BookFacts (bookBytes n p numbers pile)
     unfolding bookBytes
     written-facts =
-        let size = lengths n p (frame .desks-least) (frame .desks-most) (frame .piles-least) (frame .piles-most) in
+        let size = lengths n p (frame .sizes) in
         record {
           long = omega (arith, length-book n p numbers pile, size .0);
           version = refl;
           fourth = refl;
-          desks-least = frame .desks-least;
-          desks-most = frame .desks-most;
-          piles-least = frame .piles-least;
-          piles-most = frame .piles-most;
+          sizes = frame .sizes;
           sized = length-book n p numbers pile;
           rises = rising-cong p _ numbers written-number ∙ frame .rises;
           placed = λ k l. read-position n p numbers pile k l (omega (arith, size .1));

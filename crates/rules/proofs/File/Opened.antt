@@ -14,12 +14,12 @@ use Rattle.rules.specs.Pile.{openingLawful}
 use Rattle.rules.specs.Layout.{bookLength}
 use Rattle.rules.specs.Opening.{given, givenPile, openingAnswer, opened, afterOpening}
 use Rattle.rules.specs.Book.{bookAnswer}
-use Rattle.rules.proofs.Loops.Logic.{in-range, and-left, and-right}
 use Rattle.rules.proofs.Loops.Refusals.{when-done, when-not-done, orElse-first, orElse-rest, first-at, when-accepted}
 use Rattle.rules.proofs.Loops.Sets.{part-sets}
 use Rattle.rules.proofs.Pile.Facts.{PileFacts, opening-facts}
 use Rattle.rules.proofs.Pile.Fresh.{fresh-lawful}
 use Rattle.rules.proofs.File.Written.{length-book}
+use Rattle.rules.proofs.File.Readable.{sizes-range}
 use Rattle.rules.proofs.File.LawfulBook.{Frame, written-readable}
 
 pub record Accepted (n p : ℕ) (l : List ℕ) (room : ℕ) : Type 0 where
@@ -32,17 +32,11 @@ module _ (n p : ℕ) (l : List ℕ) (room : ℕ) (accepted : openingAnswer n p l
   pub accepted-facts : Accepted n p l room
   unfolding openingAnswer
   accepted-facts =
-      let ranges = when-not-done _ _ (orElse-first _ _ accepted) in
-      let desks = in-range _ _ _ (and-left _ _ ranges) in
-      let piles = in-range _ _ _ (and-right _ _ ranges) in
       let listed = orElse-rest _ _ accepted in
       let rest = orElse-rest _ _ (orElse-rest _ _ listed) in
       record {
         frame = record {
-          desks-least = desks .0;
-          desks-most = desks .1;
-          piles-least = piles .0;
-          piles-most = piles .1;
+          sizes = sizes-range _ _ (when-not-done _ _ (orElse-first _ _ accepted));
           rises = when-not-done _ _ (orElse-first _ _ (orElse-rest _ _ listed));
         };
         sized = eqb-true _ _ (when-not-done _ _ (orElse-first _ _ listed));

@@ -11,7 +11,7 @@ use borrow.Author.Tests.{ltb-false, eqb-true, le-leb, le-ltb, eq-eqb}
 use Rattle.rules.specs.Loops.{between}
 use Rattle.rules.specs.Refusals.{_when_, _orElse_}
 use Rattle.rules.specs.Pile.{pileAnswer}
-use Rattle.rules.specs.Layout.{deskLimit, pileLimit, bodyLength, bodyAt, bookLength, desks, piles, pileNumber, position, pileOf, bookBytes}
+use Rattle.rules.specs.Layout.{deskLimit, pileLimit, sizesInRange, bodyLength, bodyAt, bookLength, desks, piles, pileNumber, position, pileOf, bookBytes}
 use Rattle.rules.specs.Opening.{rising}
 use Rattle.rules.specs.Book.{headSound, contentsSound, bookAnswer}
 use Rattle.rules.proofs.Loops.Logic.{in-range, and-left, and-right, and-both}
@@ -21,14 +21,30 @@ use Rattle.rules.proofs.Bytes.Numbers.{Octets}
 use Rattle.rules.proofs.Pile.Agree.{agree-refl}
 use Rattle.rules.proofs.File.Written.{write-book}
 
+-- sizes of a book
+pub record Sizes (n p : ℕ) : Type 0 where
+  pub desks-least : 1 ≤ n
+  pub desks-most : n ≤ deskLimit
+  pub piles-least : 1 ≤ p
+  pub piles-most : p ≤ pileLimit
+
+pub sizes-range : (n p : ℕ) → sizesInRange n p ≡ true → Sizes n p
+unfolding sizesInRange
+sizes-range n p e =
+    let desks = in-range _ _ _ (and-left _ _ e) in
+    let piles = in-range _ _ _ (and-right _ _ e) in
+    record { desks-least = desks .0; desks-most = desks .1; piles-least = piles .0; piles-most = piles .1 }
+
+pub sizes-pass : (n p : ℕ) → Sizes n p → sizesInRange n p ≡ true
+unfolding sizesInRange between
+sizes-pass n p s =
+    and-both (and-both (le-leb _ _ (s .desks-least)) (le-leb _ _ (s .desks-most))) (and-both (le-leb _ _ (s .piles-least)) (le-leb _ _ (s .piles-most)))
+
 pub record BookFacts (b : List ℕ) : Type 0 where
   pub long : 4 ≤ length b
   pub version : getD b 0 0 ≡ 1
   pub fourth : getD b 3 0 ≡ 0
-  pub desks-least : 1 ≤ desks b
-  pub desks-most : desks b ≤ deskLimit
-  pub piles-least : 1 ≤ piles b
-  pub piles-most : piles b ≤ pileLimit
+  pub sizes : Sizes (desks b) (piles b)
   pub sized : length b ≡ bookLength (desks b) (piles b)
   pub rises : rising (piles b) (pileNumber b) ≡ true
   pub placed : (k : ℕ) → k < piles b → position b k ≡ bodyAt (desks b) (piles b) k
@@ -40,15 +56,11 @@ book-facts b e =
     let head : headSound b ≡ true = when-not-done _ _ (orElse-first _ _ (orElse-rest _ _ e)) in
     let rest = orElse-rest _ _ (orElse-rest _ _ e) in
     let contents : contentsSound b ≡ true = when-not-done _ _ (orElse-first _ _ (orElse-rest _ _ rest)) in
-    let ranges = and-right _ _ head in
     record {
       long = ltb-false _ _ (when-done _ _ (orElse-first _ _ e));
       version = eqb-true _ _ (and-left _ _ head);
-      fourth = eqb-true _ _ (and-right _ _ (and-right _ _ ranges));
-      desks-least = in-range _ _ _ (and-left _ _ ranges) .0;
-      desks-most = in-range _ _ _ (and-left _ _ ranges) .1;
-      piles-least = in-range _ _ _ (and-left _ _ (and-right _ _ ranges)) .0;
-      piles-most = in-range _ _ _ (and-left _ _ (and-right _ _ ranges)) .1;
+      fourth = eqb-true _ _ (and-right _ _ (and-right _ _ head));
+      sizes = sizes-range _ _ (and-left _ _ (and-right _ _ head));
       sized = eqb-true _ _ (when-not-done _ _ (orElse-first _ _ rest));
       rises = and-left _ _ contents;
       placed = λ k l. eqb-true _ _ (every-at (piles b) _ (and-right _ _ contents) k l);
@@ -56,13 +68,12 @@ book-facts b e =
     }
 
 pub book-passes : (b : List ℕ) → BookFacts b → bookAnswer b ≡ 0
-unfolding bookAnswer headSound contentsSound between _when_ _orElse_
+unfolding bookAnswer headSound contentsSound _when_ _orElse_
 book-passes b f =
     rw (
       le-ltb _ _ (f .long),
       and-both (eq-eqb _ _ (f .version))
-          (and-both (and-both (le-leb _ _ (f .desks-least)) (le-leb _ _ (f .desks-most)))
-          (and-both (and-both (le-leb _ _ (f .piles-least)) (le-leb _ _ (f .piles-most))) (eq-eqb _ _ (f .fourth)))),
+          (and-both (sizes-pass _ _ (f .sizes)) (eq-eqb _ _ (f .fourth))),
       eq-eqb _ _ (f .sized),
       and-both (f .rises) (every-all (piles b) (λ k l. eq-eqb _ _ (f .placed k l))),
       first-none (piles b) (f .bodies),
@@ -77,15 +88,15 @@ rewritten b o e =
     (f .placed) (λ k l. agree-refl)
 
 -- lengths from 42 to 20,932
-pub lengths : (n p : ℕ) → 1 ≤ n → n ≤ deskLimit → 1 ≤ p → p ≤ pileLimit → (42 ≤ bookLength n p) × (bookLength n p ≤ 20932)
+pub lengths : (n p : ℕ) → Sizes n p → (42 ≤ bookLength n p) × (bookLength n p ≤ 20932)
 unfolding bookLength bodyAt bodyLength
-lengths n p 1≤n n≤8 1≤p p≤32 =
+lengths n p s =
     let low : 2 ≤ n + 1 = omega arith in
     let high : n + 1 ≤ 9 = omega arith in
-    (omega (arith, mul-le-mul 1≤p (mul-le-mul low low)), omega (arith, mul-le-mul p≤32 (mul-le-mul high high)))
+    (omega (arith, mul-le-mul (s .piles-least) (mul-le-mul low low)), omega (arith, mul-le-mul (s .piles-most) (mul-le-mul high high)))
 
 pub book-lengths : (b : List ℕ) → bookAnswer b ≡ 0 → (42 ≤ length b) × (length b ≤ 20932)
 book-lengths b e =
     let f = book-facts b e in
-    let l = lengths (desks b) (piles b) (f .desks-least) (f .desks-most) (f .piles-least) (f .piles-most) in
+    let l = lengths (desks b) (piles b) (f .sizes) in
     (omega (arith, f .sized, l .0), omega (arith, f .sized, l .1))

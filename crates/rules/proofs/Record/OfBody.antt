@@ -22,10 +22,10 @@ module _ (b : List ℕ) (k : ℕ) (readable : bookAnswer b ≡ 0) (k<p : k < pil
   P = pileOf b k
 
   agrees : Agree n (recordView (recordOf n P)) P
-  agrees = record-agrees n P (book-facts b readable .desks-most)
+  agrees = record-agrees n P (book-facts b readable .sizes .desks-most)
 
   pub body-record : recordAnswer (recordOf n P) ≡ 0
-  body-record = let f = book-facts b readable in record-of-answer n P (f .desks-most) (f .desks-least) ∙ f .bodies k k<p
+  body-record = let f = book-facts b readable in record-of-answer n P (f .sizes .desks-most) (f .sizes .desks-least) ∙ f .bodies k k<p
 
   pub body-tonnage : recordTonnageReply (recordOf n P) ≡ value (tonnage n P)
   unfolding recordTonnageReply reply recordOf

@@ -61,7 +61,7 @@ module _ (b : List ℕ) (number : ℕ) (o : Octets b) (found : fetchAnswer b num
   book = book-facts b (fetched-readable b number found)
 
   agrees : Agree n (recordView (recordOf n P)) P
-  agrees = record-agrees n P (book .desks-most)
+  agrees = record-agrees n P (book .sizes .desks-most)
 
   store-passes : storeAnswer b number (recordOf n P) ≡ 0
   unfolding storeAnswer recordOf

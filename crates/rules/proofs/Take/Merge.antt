@@ -71,14 +71,14 @@ module _ (n p : ℕ) (numbers : ℕ → ℕ) (frame : Frame n p numbers) (P Q R 
   row-accepted d ahead k i k<p i<n =
       rw (row-part n p numbers P k (suc i) k<p (suc-le-suc i<n), row-part n p numbers Q k (suc i) k<p (suc-le-suc i<n))
       (none-met
-      (not-met 31 (no-split n i (frame .desks-least) (frame .desks-most) i<n (P k) (Q k) (fitsP k k<p) (fitsQ k k<p)
+      (not-met 31 (no-split n i (frame .sizes .desks-least) (frame .sizes .desks-most) i<n (P k) (Q k) (fitsP k k<p) (fitsQ k k<p)
       (⊎-map (λ h. h .0) (λ h. h .0) (merged k k<p .desk i i<n))))
       (not-met 32 (⊎-elim mine (λ e. and-left-fails e _) (decided (eqb i d)))))
     where
       mine : eqb i d ≡ true → eqb i d and later (places (row n (P k) i)) (numbersOf (row n (Q k) i)) (numbersOf (row n (P k) i)) ≡ false
       mine e =
           and-right-fails (eqb i d)
-          (not-later n i (frame .desks-least) (frame .desks-most) i<n (P k) (Q k) (fitsP k k<p) (fitsQ k k<p)
+          (not-later n i (frame .sizes .desks-least) (frame .sizes .desks-most) i<n (P k) (Q k) (fitsP k k<p) (fitsQ k k<p)
           (rw (eqb-true i d e) (ahead k k<p)))
 
   pub take-accepted : (d : ℕ) → d < n → ((k : ℕ) → k < p → RowLe n (Q k) (P k) d) → takeAnswer d own copy ≡ 0
@@ -98,8 +98,8 @@ module _ (n p : ℕ) (numbers : ℕ → ℕ) (frame : Frame n p numbers) (P Q R 
       let i<n : i < n = le-of-suc-le-suc r<n in
       ap₂ laterRow (row-part n p numbers P k (suc i) k<p r<n) (row-part n p numbers Q k (suc i) k<p r<n)
       ∙ ⊎-elim
-      (λ h. merge-own n i (frame .desks-least) (frame .desks-most) i<n (P k) (Q k) (fitsP k k<p) (fitsQ k k<p) (h .0) ∙ ap encode (sym (h .1)))
-      (λ h. merge-copy n i (frame .desks-least) (frame .desks-most) i<n (P k) (Q k) (fitsP k k<p) (fitsQ k k<p) (h .0) ∙ ap encode (sym (h .1)))
+      (λ h. merge-own n i (frame .sizes .desks-least) (frame .sizes .desks-most) i<n (P k) (Q k) (fitsP k k<p) (fitsQ k k<p) (h .0) ∙ ap encode (sym (h .1)))
+      (λ h. merge-copy n i (frame .sizes .desks-least) (frame .sizes .desks-most) i<n (P k) (Q k) (fitsP k k<p) (fitsQ k k<p) (h .0) ∙ ap encode (sym (h .1)))
       (merged k k<p .desk i i<n)
 
   taken-book : taken own copy ≡ bookBytes n p numbers R
