@@ -1,16 +1,16 @@
 -- Runs of a body's numbers, read into arrays of zeros, make up the record's arrays.
 -- Assumes nothing.
 use Prim.Native.Nat.{ℕ, _+_, _*_, _≤_, _<_}
-use native.Mathlib.Nat.{not-suc-le-zero, eq-or-lt-of-le, le-of-suc-le-suc}
-use native.Mathlib.Numerals.{add-one}
+use native.Mathlib.Nat.{not-suc-le-zero}
 use native.Mathlib.Decide.{decLt}
 use native.Mathlib.Omega.{arith}
-use mathlib.Core.Path.{_≡_, ap, sym, subst, subst⁻¹, _∙_}
-use mathlib.Core.Logic.{_⊎_, inl, inr, ⊎-elim, by-cases}
+use mathlib.Core.Path.{_≡_, ap, sym, subst⁻¹, _∙_}
+use mathlib.Core.Logic.{_⊎_, inl, inr, by-cases}
 use mathlib.Core.List.{List, [], _∷_}
 use lib.ListN.{length, getD, replicate, length-replicate, getD-replicate}
 use lib.Dec.{lit<}
 use lib.Seq.{sets, length-sets, getD-append-add}
+use borrow.Author.Count.{below-more}
 use Rattle.rules.specs.Loops.{list}
 use Rattle.rules.specs.Pile.{Side, draw, tip, Pile}
 use Rattle.rules.specs.Layout.{earnedColumn, column}
@@ -35,10 +35,6 @@ run-padded : (l : List ℕ) (at n : ℕ) (f v : ℕ → ℕ) (j : ℕ) → at + 
 run-padded l at n f v j fits zeros is j<8 =
     by-cases (decLt j n) (λ j<n. run-in l at n f j fits j<n ∙ is j j<n ∙ sym (padded-used n v j j<n))
     (λ j≥n. run-out l at n f (at + j) (inr (omega arith)) ∙ zeros (at + j) (omega arith) (omega arith) ∙ sym (padded-unused n v j (omega arith)))
-
--- what holds of each number below i, and of i
-up-to : (P : ℕ → Type 0) (i : ℕ) → ((k : ℕ) → k < i → P k) → P i → (k : ℕ) → k < i + 1 → P k
-up-to P i h own k l = ⊎-elim (λ e. subst⁻¹ P e own) (h k) (eq-or-lt-of-le (le-of-suc-le-suc (subst (λ (n : ℕ). k < n) (add-one i) l)))
 
 module _ (n : ℕ) (p : Pile) where
   -- a record with the pile's numbers
@@ -97,8 +93,8 @@ module _ (n : ℕ) (p : Pile) where
     next-row {l} i f g i<n r tipped drawn draws tips =
         record {
           long = length-sets half (i * rowPlaces + 10) (list n g) ∙ half-long;
-          earned = λ s. up-to _ i (λ k k<i. before k (earnedColumn s) k<i (column-low s) ∙ r .earned s k k<i) (own-earned s);
-          give = λ s k j k≤i j<8. up-to (λ k. getD all (k * rowPlaces + column 8 s j) 0 ≡ padded n (p .give s k) j) i
+          earned = λ s. below-more _ i (λ k k<i. before k (earnedColumn s) k<i (column-low s) ∙ r .earned s k k<i) (own-earned s);
+          give = λ s k j k≤i j<8. below-more (λ k. getD all (k * rowPlaces + column 8 s j) 0 ≡ padded n (p .give s k) j) i
               (λ k k<i. before k (column 8 s j) k<i (column-below 8 s j j<8) ∙ r .give s k j k<i j<8) (own-give s j j<8) k k≤i;
           rest = λ k m k<tallyPlaces. run-out half (i * rowPlaces + 10) n g k (inr (omega arith)) ∙ zeros k (omega arith) k<tallyPlaces;
         }
