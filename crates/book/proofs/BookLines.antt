@@ -17,6 +17,7 @@ use Rattle.rules.specs.Book.{headSound, contentsSound, bookAnswer, place, absen
 use Rattle.rules.specs.Record.{Record, recordView, recordAnswer, storeAnswer, afterStore}
 use Rattle.rules.proofs.Loops.Logic.{and-left, and-right}
 use Rattle.rules.proofs.Loops.Refusals.{orElse-stands, orElse-passes, when-accepted, when-refused}
+use Rattle.book.specs.Within.{Ranges}
 
 module _ (b : List ℕ) where
   pub answer-1 : length b < 4 → 1 ≡ bookAnswer b
@@ -29,15 +30,16 @@ module _ (b : List ℕ) where
     answer-2 e = rw (le-ltb _ _ long, e)
 
     module _ (head : headSound b ≡ true) where
-      pub desks-range : (1 ≤ desks b) × (desks b ≤ 8)
+      pub ranges : Ranges (desks b) (piles b)
       unfolding headSound between
-      desks-range =
-          let r = and-left _ _ (and-right _ _ head) in (leb-true _ _ (and-left _ _ r), leb-true _ _ (and-right _ _ r))
-
-      pub piles-range : (1 ≤ piles b) × (piles b ≤ 32)
-      unfolding headSound between
-      piles-range =
-          let r = and-left _ _ (and-right _ _ (and-right _ _ head)) in (leb-true _ _ (and-left _ _ r), leb-true _ _ (and-right _ _ r))
+      ranges =
+          let n = and-left _ _ (and-right _ _ head) in
+          let p = and-left _ _ (and-right _ _ (and-right _ _ head)) in
+          record {
+            desks-least = leb-true _ _ (and-left _ _ n);
+            desks-most = leb-true _ _ (and-right _ _ n);
+            piles-most = leb-true _ _ (and-right _ _ p);
+          }
 
       pub answer-3 : length b ≢ bookLength (desks b) (piles b) → 3 ≡ bookAnswer b
       unfolding bookAnswer _when_ _orElse_

@@ -1,9 +1,10 @@
 -- What an accepted opening writes, part by part: an entry of the contents, a body, and head, contents and bodies together.
 -- Assumes nothing.
 use Prim.Native.Nat.{ℕ, _+_, _*_, _≤_}
+use native.Mathlib.Nat.{le-of-eq}
 use native.Mathlib.Omega.{arith}
 use mathlib.Core.Path.{_≡_, ap, sym, _∙_}
-use mathlib.Core.Bool.{not}
+use mathlib.Core.Bool.{true, not}
 use mathlib.Core.List.{List, [], _∷_, _++_}
 use lib.ListN.{length}
 use lib.Seq.{sets, length-sets}
@@ -14,15 +15,15 @@ use Rattle.rules.specs.Pile.{openingLawful}
 use Rattle.rules.specs.Numbers.{bytes, afterPut}
 use Rattle.rules.specs.Layout.{bodyLength, bodyAt, bookLength, bodyBytes, entryBytes, bookBytes, entryAt, positionAt}
 use Rattle.rules.specs.Record.{Record, recordView, recordOf}
-use Rattle.rules.specs.Opening.{given, givenPile, openingAnswer, opened}
+use Rattle.rules.specs.Opening.{rising, given, givenPile, openingAnswer, opened}
 use Rattle.rules.proofs.Loops.Refusals.{when-done, when-not-done, orElse-first, orElse-rest}
 use Rattle.rules.proofs.Bytes.Numbers.{length-bytes}
 use Rattle.rules.proofs.Bytes.Put.{sets-append}
 use Rattle.rules.proofs.File.Body.{length-body, body-cong}
 use Rattle.rules.proofs.File.Written.{length-entry, length-contents}
-use Rattle.rules.proofs.File.LawfulBook.{Frame}
 use Rattle.rules.proofs.File.Opened.{opened-frame}
 use Rattle.rules.proofs.Record.RecordOf.{record-agrees}
+use Rattle.book.specs.Listed.{Openings}
 use Rattle.book.proofs.Saved.{put-fits, sets-piece}
 
 abbrev pub body : ℕ → List ℕ → ℕ → List ℕ
@@ -78,8 +79,8 @@ module _ (n p : ℕ) (l : List ℕ) where
 
 -- what an accepted opening tells
 pub record Accepted (n p : ℕ) (l : List ℕ) (room : ℕ) : Type 0 where
-  pub frame : Frame n p (λ k. given n l k 0)
-  pub sized : length l ≡ p * (3 + 2 * n)
+  pub openings : Openings n p l
+  pub rises : rising p (λ k. given n l k 0) ≡ true
   pub lawful : first p (λ k. 5 when not (openingLawful n (givenPile n l k))) ≡ 0
   pub enough : bookLength n p ≤ room
 
@@ -88,9 +89,14 @@ unfolding openingAnswer
 accepted-facts n p l room e =
     let sizes = orElse-rest _ _ e in
     let piles = orElse-rest _ _ (orElse-rest _ _ sizes) in
+    let frame = opened-frame n p l room e in
+    let long = le-of-eq (sym (eqb-true _ _ (when-not-done _ _ (orElse-first _ _ sizes)))) in
     record {
-      frame = opened-frame n p l room e;
-      sized = eqb-true _ _ (when-not-done _ _ (orElse-first _ _ sizes));
+      openings = record {
+        desks-least = frame .desks-least;
+        listed = record { desks-most = frame .desks-most; piles-most = frame .piles-most; long = long };
+      };
+      rises = frame .rises;
       lawful = orElse-first _ _ piles;
       enough = ltb-false _ _ (when-done _ _ (orElse-rest _ _ piles));
     }

@@ -14,6 +14,7 @@ use Rattle.rules.proofs.Loops.Refusals.{when-accepted, when-refused}
 use Rattle.rules.proofs.File.Found.{found-readable, found-desk, found-place, desk-0-fetch}
 use Rattle.rules.proofs.File.Refused.{fetch-refused, body-refused}
 use Rattle.rules.proofs.Record.OfBody.{body-tonnage, body-rights}
+use Rattle.book.specs.Within.{HasPlace}
 
 module _ (i : ℕ) (b : List ℕ) (number : ℕ) {m : ℕ} (answer : m ≡ deskAnswer i b number) where
   -- the pile was not found
@@ -30,8 +31,12 @@ module _ (i : ℕ) (b : List ℕ) (number : ℕ) {m : ℕ} (answer : m ≡ deskA
     found : deskAnswer i b number ≡ 0
     found = sym answer ∙ z
 
+    pub has-place : HasPlace b k
+    has-place =
+        record { readable = found-readable i b number found; below = subst⁻¹ (λ (k : ℕ). k < piles b) at (found-place i b number found) }
+
     pub place-is : (bookAnswer b ≡ 0) × (k < piles b)
-    place-is = (found-readable i b number found, subst⁻¹ (λ (k : ℕ). k < piles b) at (found-place i b number found))
+    place-is = (has-place .readable, has-place .below)
 
     pub rights-found : (s : Side) {r : Record} → r ≡ recordOf (desks b) (pileOf b k) → recordRightsReply s i r ≡ rightsReply s i b number
     unfolding rightsReply reply
@@ -72,5 +77,5 @@ module _ (b : List ℕ) (number : ℕ) {m : ℕ} (answer : m ≡ deskAnswer 0 b 
     pub tonnage-found : {r : Record} → r ≡ recordOf (desks b) (pileOf b k) → recordTonnageReply r ≡ tonnageReply b number
     unfolding tonnageReply reply
     tonnage-found is =
-        rw (is, at) (let l = place-is 0 b number answer z at in body-tonnage b (place b number) (l .0) (subst⁻¹ (λ (j : ℕ). j < piles b) (sym at) (l .1)))
+        rw (is, at) (let l = has-place 0 b number answer z at in body-tonnage b (place b number) (l .readable) (subst⁻¹ (λ (j : ℕ). j < piles b) (sym at) (l .below)))
         ∙ sym (when-accepted _ _ _ fetchable)

@@ -1,6 +1,5 @@
 -- `open` asks all lines of the table first; where none is met, front and bodies are written one behind the other, and they make up the opened book.
 -- Assumes nothing.
-use native.Mathlib.Nat.{le-of-eq}
 use native.Mathlib.Omega.{arith}
 use mathlib.Core.Path.{_≡_, sym, _∙_}
 use lib.ListN.{length}
@@ -33,12 +32,12 @@ put-front-requires : tie.Need-put-front-requires
 put-front-requires c κs =
     let a = start (c .before .before) .args in
     let f = facts (c .before) in
-    (f .frame .desks-most, f .frame .piles-most, le-of-eq (sym (f .sized)), omega (arith, f .enough, contents-within (a .n) (a .p)), f .frame .rises)
+    record { listed = f .openings .listed; room = omega (arith, f .enough, contents-within (a .n) (a .p)); rises = f .rises }
 
 put-bodies-requires : tie.Need-put-bodies-requires
 put-bodies-requires c κs =
     let f = facts (c .before .before .before .before .before) in
-    (f .frame .desks-least, f .frame .desks-most, f .frame .piles-most, le-of-eq (sym (f .sized)), omega (arith, f .enough), f .lawful)
+    record { openings = f .openings; room = omega (arith, f .enough); lawful = f .lawful }
 
 same-length : tie.Need-same-length
 same-length c = search needs

@@ -101,7 +101,7 @@ returns-3 c =
     store-refused _ _ _ (store-30 _ _ _ (found (one second)) (passed second) (and-left-fails (ne-eqb _ _ (c .if3 .taken)) _)) (omega arith)
 
 load-body-requires : tie.Need-load-body-requires
-load-body-requires c κs = let first = one (two (c .before)) in (found-readable 0 _ _ (asked first), below first)
+load-body-requires c κs = let first = one (two (c .before)) in record { readable = found-readable 0 _ _ (asked first); below = below first }
 
 cast-same-opening : tie.Need-cast-same-opening
 cast-same-opening c = search needs
@@ -139,7 +139,7 @@ save-requires c κs =
     let first = one (two (three (four c))) in
     let b = start (first .before) .args .book .now in
     let f = facts first in
-    (f .desks-most, omega (arith, c .body-at .ensures, f .sized, body-within (desks b) (piles b) _ (below first)))
+    search (needs, f .desks-most, f .sized, body-within (desks b) (piles b) _ (below first))
 
 same-length-5 : tie.Need-same-length-5
 same-length-5 c = search needs

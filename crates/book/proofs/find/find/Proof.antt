@@ -40,7 +40,7 @@ cast-p c = search (needs, facts (c .before .before .before) .piles-most)
 
 place-of-requires : tie.Need-place-of-requires
 place-of-requires c κs =
-    let f = facts (c .before .before .before) in (f .piles-most, rw (f .sized) (contents-within _ _))
+    let f = facts (c .before .before .before) in record { piles-most = f .piles-most; within = rw (f .sized) (contents-within _ _) }
 
 returns-3 : tie.Need-returns-3
 unfolding place

@@ -52,8 +52,7 @@ save-requires : tie.Need-save-requires Inv-loop μ-loop
 save-requires c κs =
     let at = c .before .before .before .before in
     let s = start at in
-    let within = body-within (s .args .n) (s .args .p) (at .loop .k) (c .before .before .before .loop-test .taken) in
-    (s .pre .1, omega (arith, s .pre .4, at .loop .inv .1, at .loop .inv .2, within))
+    search (needs, body-within (s .args .n) (s .args .p) (at .loop .k) (c .before .before .before .loop-test .taken))
 
 add-at : tie.Need-add-at Inv-loop μ-loop
 add-at c =
@@ -62,7 +61,7 @@ add-at c =
     omega (
       arith,
       next at,
-      position-most (s .args .n) (s .args .p) (at .loop .k + 1) (s .pre .1) (s .pre .2) (omega (arith, s .pre .2, turn c .loop-test .taken)),
+      position-most (s .args .n) (s .args .p) (at .loop .k + 1) (s .pre .openings .listed .desks-most) (s .pre .openings .listed .piles-most) (omega arith),
     )
 
 add-k : tie.Need-add-k Inv-loop μ-loop
@@ -76,11 +75,11 @@ loop-again c =
     let at = turn c .before in
     let s = start at in
     let given = asked c .given-pile .ensures in
-    let lawful = first-at (s .args .p) _ (s .pre .5) (at .loop .k) (turn c .loop-test .taken) in (
+    let lawful = first-at (s .args .p) _ (s .pre .lawful) (at .loop .k) (turn c .loop-test .taken) in (
       search needs,
       search needs,
       next at,
-      put-given (s .args .n) (s .args .p) (s .args .numbers .now) _ (at .loop .k) (s .pre .1) (at .loop .inv .3) (at .loop .inv .2)
+      put-given (s .args .n) (s .args .p) (s .args .numbers .now) _ (at .loop .k) (s .pre .openings .listed .desks-most) (at .loop .inv .3) (at .loop .inv .2)
           (given .1 (given .0 ∙ lawful)) (c .before .before .save .ensures),
     )
 

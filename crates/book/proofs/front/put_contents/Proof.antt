@@ -30,11 +30,11 @@ turn c = two c .before .before .before
 
 -- the numbers before pile k, and that its own has 2 bytes
 most : (c : tie.At-loop Inv-loop μ-loop) → c .loop .k * (3 + 2 * start c .args .n) ≤ 608
-most c = given-most (start c .args .n) (c .loop .k) (start c .pre .0) (omega (arith, start c .pre .1, c .loop .inv .0))
+most c = given-most (start c .args .n) (c .loop .k) (start c .pre .listed .desks-most) (omega arith)
 
 short : (c : tie.In-loop Inv-loop μ-loop)
     → getD (start (c .before) .args .numbers .now) (c .before .loop .k * (3 + 2 * start (c .before) .args .n)) 0 < 65536
-short c = rw given-number (number-most _ _ (start (c .before) .pre .4) (c .before .loop .k) (c .loop-test .taken))
+short c = rw given-number (number-most _ _ (start (c .before) .pre .rises) (c .before .loop .k) (c .loop-test .taken))
 
 loop-holds : tie.Need-loop-holds Inv-loop μ-loop
 unfolding flat
@@ -80,7 +80,7 @@ cast-put4 : tie.Need-cast-put4 Inv-loop μ-loop
 cast-put4 c =
     let at = turn c .before in
     let s = start at in
-    search (needs, position-most (s .args .n) (s .args .p) (at .loop .k) (s .pre .0) (s .pre .1) (omega (arith, s .pre .1, at .loop .inv .0)))
+    search (needs, position-most (s .args .n) (s .args .p) (at .loop .k) (s .pre .listed .desks-most) (s .pre .listed .piles-most) (omega arith))
 
 put4-requires : tie.Need-put4-requires Inv-loop μ-loop
 put4-requires c κs = search needs
@@ -98,7 +98,7 @@ loop-again c =
     let a = start at .args in (
       search needs,
       search needs,
-      put-entry (a .n) (a .p) (a .numbers .now) _ (at .loop .k) (omega (arith, start at .pre .3, turn (put .before) .loop-test .taken))
+      put-entry (a .n) (a .p) (a .numbers .now) _ (at .loop .k) (omega arith)
           (at .loop .inv .2) (given-number _ _ _) (put .before .body-at .ensures) (two (put .before) .put2 .ensures .1) (put .put4 .ensures .1),
     )
 

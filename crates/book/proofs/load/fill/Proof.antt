@@ -43,7 +43,7 @@ mul-out c = search needs
 slice-write-out : tie.Need-slice-write-out Inv-loop μ-loop
 slice-write-out c =
     let at = c .before .before in
-    rw (at .loop .inv .1, length-sets) (omega (arith, start at .pre .0))
+    rw (at .loop .inv .1, length-sets) (omega arith)
 
 add-k : tie.Need-add-k Inv-loop μ-loop
 add-k c = search needs

@@ -25,7 +25,7 @@ start c = c .before .before
 -- the row that is read lies in the book
 within : (c : tie.In-loop Inv-loop μ-loop) → let a = start (c .before) .args in
     a .at + ((c .before .loop .i + 1) * (8 * (a .n + 1)) + 8 * (a .n + 1)) ≤ length (a .book .now)
-within c = omega (arith, start (c .before) .pre .1, row-within (start (c .before) .args .n) (c .before .loop .i + 1) (omega arith))
+within c = omega (arith, row-within (start (c .before) .args .n) (c .before .loop .i + 1) (omega arith))
 
 add-row : tie.Need-add-row Inv-loop μ-loop
 add-row c = search needs
@@ -55,8 +55,7 @@ add-fill : tie.Need-add-fill Inv-loop μ-loop
 add-fill c = search needs
 
 fill-requires : tie.Need-fill-requires Inv-loop μ-loop
-fill-requires c κs =
-    (omega (arith, start (c .before .before) .pre .0), omega (arith, within (c .before), start (c .before .before) .pre .0))
+fill-requires c κs = search (needs, within (c .before))
 
 slice-aggregate-fill-2 : tie.Need-slice-aggregate-fill-2 Inv-loop μ-loop
 slice-aggregate-fill-2 c = search needs
@@ -77,9 +76,7 @@ add-fill-4 : tie.Need-add-fill-4 Inv-loop μ-loop
 add-fill-4 c = search (needs, within (c .before .before .before .before))
 
 fill-requires-2 : tie.Need-fill-requires-2 Inv-loop μ-loop
-fill-requires-2 c κs =
-    let at : tie.In-loop Inv-loop μ-loop = c .before .before .before .before in
-    (omega (arith, start (at .before) .pre .0), omega (arith, within at, start (at .before) .pre .0))
+fill-requires-2 c κs = search (needs, within (c .before .before .before .before))
 
 add-i : tie.Need-add-i Inv-loop μ-loop
 add-i c = search needs
@@ -98,14 +95,14 @@ loop-again c =
       search needs,
       refl,
       rw (two .fill2 .ensures, one .fill .ensures)
-          (next-row _ _ (start at .pre .0) (at .loop .i) _ _ (one .before .before .loop-test .taken) (at .loop .inv .2) (ap read (omega arith)) (ap read (omega arith))
+          (next-row _ _ (start at .pre .desks-most) (at .loop .i) _ _ (one .before .before .loop-test .taken) (at .loop .inv .2) (ap read (omega arith)) (ap read (omega arith))
           (λ j l. ap read (omega arith)) (λ j l. ap read (omega arith))),
     )
 
 returns : tie.Need-returns Inv-loop μ-loop
 returns c =
     let done : c .before .loop .i ≡ start (c .before) .args .n = omega arith in
-    all-rows _ _ (start (c .before) .pre .0) (rw done at (c .before .loop .inv .2))
+    all-rows _ _ (start (c .before) .pre .desks-most) (rw done at (c .before .loop .inv .2))
 
 pub load-tallies-spec : {M : Type 1} → statement M
 load-tallies-spec =

@@ -28,10 +28,10 @@ abbrev before : tie.At-loop Inv-loop μ-loop → ℕ
 before c = c .loop .k * (3 + 2 * c .before .args .n)
 
 most : (c : tie.At-loop Inv-loop μ-loop) → before c ≤ 608
-most c = given-most (c .before .args .n) (c .loop .k) (c .before .pre .0) (omega (arith, c .before .pre .1, c .loop .inv .0))
+most c = given-most (c .before .args .n) (c .loop .k) (c .before .pre .desks-most) (omega arith)
 
 within : (c : tie.In-loop Inv-loop μ-loop) → before (c .before) < length (c .before .before .args .numbers .now)
-within c = omega (arith, given-within (c .before .before .args .n) (c .loop-test .taken), c .before .before .pre .2)
+within c = omega (arith, given-within (c .before .before .args .n) (c .loop-test .taken))
 
 loop-holds : tie.Need-loop-holds Inv-loop μ-loop
 unfolding rising every

@@ -31,7 +31,7 @@ answered : (c : tie.After-check Inv-loop μ-loop) → let at = c .before .before
 answered c =
     let at = c .before .before .before in
     let a = start at .args in
-    c .check .ensures ∙ ap recordAnswer (c .before .load .ensures) ∙ record-of-answer (a .n) _ (start at .pre .1) (start at .pre .0)
+    c .check .ensures ∙ ap recordAnswer (c .before .load .ensures) ∙ record-of-answer (a .n) _ (start at .pre .ranges .desks-most) (start at .pre .ranges .desks-least)
     ∙ ap (λ (x : ℕ). pileAnswer (a .n) (bodyView (a .n) (a .book .now) x)) (at .loop .inv .1)
 
 body-length-requires : tie.Need-body-length-requires Inv-loop μ-loop
@@ -46,9 +46,7 @@ loop-holds c = (search needs, c .body-at .ensures, refl)
 
 load-requires : tie.Need-load-requires Inv-loop μ-loop
 load-requires c κs =
-    let at = c .before in
-    let a = start at .args in
-    (start at .pre .1, omega (arith, start at .pre .3, at .loop .inv .1, body-within (a .n) (a .p) (at .loop .k) (c .loop-test .taken)))
+    let a = start (c .before) .args in search (needs, body-within (a .n) (a .p) (c .before .loop .k) (c .loop-test .taken))
 
 check-requires : tie.Need-check-requires Inv-loop μ-loop
 check-requires c κs = search needs
@@ -69,7 +67,7 @@ add-at c =
       at .before .before .body-length .ensures,
       at .loop .inv .1,
       body-within (a .n) (a .p) (at .loop .k) more,
-      lengths (a .n) (a .p) (start at .pre .0) (start at .pre .1) (omega (arith, more)) (start at .pre .2) .1,
+      lengths (a .n) (a .p) (start at .pre .ranges .desks-least) (start at .pre .ranges .desks-most) (omega (arith, more)) (start at .pre .ranges .piles-most) .1,
     )
 
 add-k : tie.Need-add-k Inv-loop μ-loop

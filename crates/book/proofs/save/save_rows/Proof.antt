@@ -55,7 +55,7 @@ add-put-run : tie.Need-add-put-run Inv-loop μ-loop
 add-put-run c = search needs
 
 put-run-requires : tie.Need-put-run-requires Inv-loop μ-loop
-put-run-requires c κs = (omega (arith, room (c .before)), omega arith)
+put-run-requires c κs = search (needs, room (c .before))
 
 add-put-run-2 : tie.Need-add-put-run-2 Inv-loop μ-loop
 add-put-run-2 c = omega (arith, room (turn c))
@@ -73,7 +73,7 @@ add-put-run-4 : tie.Need-add-put-run-4 Inv-loop μ-loop
 add-put-run-4 c = search needs
 
 put-run-requires-2 : tie.Need-put-run-requires-2 Inv-loop μ-loop
-put-run-requires-2 c κs = (omega (arith, room (turn c)), omega arith)
+put-run-requires-2 c κs = search (needs, room (turn c))
 
 add-i : tie.Need-add-i Inv-loop μ-loop
 add-i c = search needs
