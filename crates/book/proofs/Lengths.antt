@@ -1,6 +1,6 @@
 -- A body is short, so that no position in a book wraps; nor does one in the list that a book is opened from.
 -- Assumes nothing.
-use Prim.Native.Nat.{ℕ, _+_, _*_, _≤_, _<_}
+use Prim.Native.Nat.{ℕ, _+_, _*_, _≤_}
 use native.Mathlib.Nat.{add-zero, mul-le-mul, mul-le-mul-right}
 use native.Mathlib.Omega.{arith}
 use mathlib.Core.Path.{_≡_, ap, sym}
@@ -21,11 +21,6 @@ pub row-within : (n r : ℕ) → r ≤ n → r * (8 * (n + 1)) + 8 * (n + 1) ≤
 unfolding bodyLength
 row-within n r l = omega (arith, mul-le-mul-right (8 * (n + 1)) l)
 
--- bodies follow each other
-pub body-next : (n p k : ℕ) → bodyAt n p (k + 1) ≡ bodyAt n p k + bodyLength n
-unfolding bodyAt
-body-next n p k = omega arith
-
 -- the contents lies within the book
 pub contents-within : (n p : ℕ) → frontLength p ≤ bookLength n p
 unfolding bodyAt bookLength
@@ -36,16 +31,13 @@ pub position-most : (n p k : ℕ) → n ≤ deskLimit → p ≤ pileLimit → k 
 unfolding bodyAt
 position-most n p k l m j = omega (arith, mul-le-mul j (body-most n l))
 
--- the numbers of the piles before pile k, and that its own follow them
+-- nor is the list of an opening long
 pub given-most : (n k : ℕ) → n ≤ deskLimit → k ≤ pileLimit → k * (3 + 2 * n) ≤ 608
 given-most n k l m =
     let high : 3 + 2 * n ≤ 19 = omega arith in
     mul-le-mul m high
 
-pub given-within : (n : ℕ) {k p : ℕ} → k < p → (k + 1) * (3 + 2 * n) ≤ p * (3 + 2 * n)
-given-within n l = omega (arith, mul-le-mul-right (3 + 2 * n) l)
-
--- the first of its own
+-- the number of pile k
 pub given-number : (n : ℕ) (l : List ℕ) (k : ℕ) → getD l (k * (3 + 2 * n)) 0 ≡ given n l k 0
 unfolding given
 given-number n l k = ap (λ (j : ℕ). getD l j 0) (sym (add-zero (k * (3 + 2 * n))))

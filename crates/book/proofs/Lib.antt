@@ -1,3 +1,4 @@
+pub mod Pieces
 pub mod Lengths
 pub mod Loaded
 pub mod Saved

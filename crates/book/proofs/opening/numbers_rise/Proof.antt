@@ -1,6 +1,6 @@
 -- `numbers_rise` tests one number after the other against the one before it and the highest, and stops at the first that is wrong.
 -- Assumes nothing.
-use Prim.Native.Nat.{ℕ, _+_, _-_, _*_, _≤_, _<_}
+use Prim.Native.Nat.{_+_, _-_, _*_, _≤_, _<_}
 use native.Mathlib.Numerals.{add-one}
 use native.Mathlib.Omega.{arith}
 use mathlib.Core.Path.{_≡_, refl, ap, sym, _∙_}
@@ -12,7 +12,8 @@ use Rattle.rules.specs.Loops.{every}
 use Rattle.rules.specs.Opening.{previous, rising, given}
 use Rattle.rules.proofs.Loops.Logic.{and-both, and-left-fails, and-right-fails}
 use Rattle.rules.proofs.Loops.Every.{every-next, every-stops}
-use Rattle.book.proofs.Lengths.{given-most, given-within, given-number}
+use Rattle.book.proofs.Pieces.{piece-within}
+use Rattle.book.proofs.Lengths.{given-number}
 use Rattle.book.proofs.opening.numbers_rise.Statement.{statement}
 use Rattle.book.proofs.opening.numbers_rise.Tie as tie
 
@@ -23,15 +24,9 @@ Inv-loop numbers n p last₀ k₀ last k =
 abbrev μ-loop : tie.MeasureT-loop
 μ-loop numbers n p last₀ k₀ last k = p - k
 
--- the numbers before pile k, and that its own is in the list
-abbrev before : tie.At-loop Inv-loop μ-loop → ℕ
-before c = c .loop .k * (3 + 2 * c .before .args .n)
-
-most : (c : tie.At-loop Inv-loop μ-loop) → before c ≤ 608
-most c = given-most (c .before .args .n) (c .loop .k) (c .before .pre .desks-most) (omega arith)
-
-within : (c : tie.In-loop Inv-loop μ-loop) → before (c .before) < length (c .before .before .args .numbers .now)
-within c = omega (arith, given-within (c .before .before .args .n) (c .loop-test .taken))
+-- the number of pile k is in the list
+within : (c : tie.In-loop Inv-loop μ-loop) → c .before .loop .k * (3 + 2 * c .before .before .args .n) < length (c .before .before .args .numbers .now)
+within c = omega (arith, piece-within (3 + 2 * c .before .before .args .n) (c .loop-test .taken))
 
 loop-holds : tie.Need-loop-holds Inv-loop μ-loop
 unfolding rising every
@@ -44,10 +39,10 @@ add-number : tie.Need-add-number Inv-loop μ-loop
 add-number c = search needs
 
 mul-number-2 : tie.Need-mul-number-2 Inv-loop μ-loop
-mul-number-2 c = search (needs, most (c .before))
+mul-number-2 c = search (needs, within c)
 
 mul-number-3 : tie.Need-mul-number-3 Inv-loop μ-loop
-mul-number-3 c = search (needs, most (c .before))
+mul-number-3 c = search (needs, within c)
 
 shared-slice-read-number : tie.Need-shared-slice-read-number Inv-loop μ-loop
 shared-slice-read-number c = search (needs, within (c .before))

@@ -1,6 +1,6 @@
 -- `openings_answer` asks one pile after the other, and stops at the first that is refused.
 -- Assumes nothing.
-use Prim.Native.Nat.{_-_, _≤_}
+use Prim.Native.Nat.{_+_, _-_, _*_, _≤_}
 use native.Mathlib.Omega.{arith}
 use mathlib.Core.Path.{_≡_, refl, sym, _∙_}
 use mathlib.Core.Bool.{not}
@@ -9,7 +9,7 @@ use Rattle.rules.specs.Refusals.{_when_, first}
 use Rattle.rules.specs.Pile.{openingLawful}
 use Rattle.rules.specs.Opening.{givenPile}
 use Rattle.rules.proofs.Loops.Refusals.{first-next, first-stops}
-use Rattle.book.proofs.Lengths.{given-within}
+use Rattle.book.proofs.Pieces.{piece-within}
 use Rattle.book.proofs.opening.openings_answer.Statement.{statement}
 use Rattle.book.proofs.opening.openings_answer.Tie as tie
 
@@ -24,7 +24,7 @@ unfolding first
 loop-holds c = (search needs, refl)
 
 given-pile-requires : tie.Need-given-pile-requires Inv-loop μ-loop
-given-pile-requires c κs = search (needs, given-within (c .before .before .before .args .n) (c .loop-test .taken))
+given-pile-requires c κs = search (needs, piece-within (3 + 2 * c .before .before .before .args .n) (c .loop-test .taken))
 
 returns : tie.Need-returns Inv-loop μ-loop
 returns c =

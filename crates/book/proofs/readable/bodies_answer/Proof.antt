@@ -8,10 +8,9 @@ use Rattle.rules.specs.Pile.{pileAnswer}
 use Rattle.rules.specs.Layout.{bodyView, bodyAt}
 use Rattle.rules.specs.Record.{recordAnswer}
 use Rattle.rules.proofs.Loops.Refusals.{first-next, first-stops}
-use Rattle.rules.proofs.File.Readable.{lengths}
 use Rattle.rules.proofs.Record.RecordOf.{record-of-answer}
 use borrow.Author.Needs.{needs}
-use Rattle.book.proofs.Lengths.{body-next, body-within}
+use Rattle.book.proofs.Lengths.{body-within}
 use Rattle.book.proofs.readable.bodies_answer.Statement.{statement}
 use Rattle.book.proofs.readable.bodies_answer.Tie as tie
 
@@ -61,14 +60,7 @@ add-at : tie.Need-add-at Inv-loop μ-loop
 add-at c =
     let at = c .before .before .before .before in
     let a = start at .args in
-    let more = c .before .before .before .loop-test .taken in
-    omega (
-      arith,
-      at .before .before .body-length .ensures,
-      at .loop .inv .1,
-      body-within (a .n) (a .p) (at .loop .k) more,
-      lengths (a .n) (a .p) (start at .pre .ranges .desks-least) (start at .pre .ranges .desks-most) (omega (arith, more)) (start at .pre .ranges .piles-most) .1,
-    )
+    search (needs, body-within (a .n) (a .p) (at .loop .k) (c .before .before .before .loop-test .taken))
 
 add-k : tie.Need-add-k Inv-loop μ-loop
 add-k c = search needs
@@ -77,11 +69,11 @@ loop-less : tie.Need-loop-less Inv-loop μ-loop
 loop-less c = search needs
 
 loop-again : tie.Need-loop-again Inv-loop μ-loop
+unfolding bodyAt
 loop-again c =
-    let at = c .before .before .before .before in
-    let a = start at .args in (
+    let at = c .before .before .before .before in (
       search needs,
-      omega (arith, at .before .before .body-length .ensures, at .loop .inv .1, body-next (a .n) (a .p) (at .loop .k)),
+      search needs,
       first-next _ _ (at .loop .inv .2) (sym (answered (c .before)) ∙ c .if1 .left),
     )
 
