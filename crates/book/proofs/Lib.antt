@@ -1,4 +1,5 @@
 pub mod Pieces
+pub mod Rising
 pub mod Lengths
 pub mod Loaded
 pub mod Saved
