@@ -3,7 +3,7 @@
 use Prim.Native.Nat.{ℕ, _+_, _-_, _*_, _≤_}
 use native.Mathlib.Omega.{arith}
 use lib.ListN.{length}
-use mathlib.Core.Path.{_≡_, refl, ap}
+use mathlib.Core.Path.{ap}
 use Rattle.rules.specs.Numbers.{number}
 use Rattle.rules.specs.Layout.{bodyView, rowLength, cellAt}
 use Rattle.book.proofs.Lengths.{row-within}
@@ -13,7 +13,7 @@ use Rattle.book.proofs.load.load_tallies.Statement.{statement}
 use Rattle.book.proofs.load.load_tallies.Tie as tie
 
 abbrev Inv-loop : tie.InvT-loop
-Inv-loop book n at tallies₀ row i₀ tallies i = (i ≤ n) × (row ≡ 8 * (n + 1)) × Rows n (bodyView n book at) i tallies
+Inv-loop book n at tallies₀ row i₀ tallies i = Rows n (bodyView n book at) i tallies
 
 abbrev μ-loop : tie.MeasureT-loop
 μ-loop book n at tallies₀ row i₀ tallies i = n - i
@@ -34,7 +34,7 @@ mul-row : tie.Need-mul-row Inv-loop μ-loop
 mul-row c = search needs
 
 loop-holds : tie.Need-loop-holds Inv-loop μ-loop
-loop-holds c = (search needs, refl, no-rows _ _)
+loop-holds c = no-rows _ _
 
 add-from : tie.Need-add-from Inv-loop μ-loop
 add-from c = search needs
@@ -91,18 +91,13 @@ loop-again c =
     let one = two .before .before .before in
     let at : tie.At-loop Inv-loop μ-loop = one .before .before .before in
     let a = start at .args in
-    let read : ℕ → ℕ = number 4 (a .book .now) in (
-      search needs,
-      refl,
-      rw (two .fill2 .ensures, one .fill .ensures)
-          (next-row _ _ (start at .pre .desks-most) (at .loop .i) _ _ (one .before .before .loop-test .taken) (at .loop .inv .2) (ap read (omega arith)) (ap read (omega arith))
-          (λ j l. ap read (omega arith)) (λ j l. ap read (omega arith))),
-    )
+    let read : ℕ → ℕ = number 4 (a .book .now) in
+    rw (two .fill2 .ensures, one .fill .ensures)
+    (next-row _ _ (start at .pre .desks-most) (at .loop .i) _ _ (one .before .before .loop-test .taken) (at .loop .inv) (ap read (omega arith)) (ap read (omega arith))
+    (λ j l. ap read (omega arith)) (λ j l. ap read (omega arith)))
 
 returns : tie.Need-returns Inv-loop μ-loop
-returns c =
-    let done : c .before .loop .i ≡ start (c .before) .args .n = omega arith in
-    all-rows _ _ (start (c .before) .pre .desks-most) (rw done at (c .before .loop .inv .2))
+returns c = all-rows _ _ (start (c .before) .pre .desks-most) (c .before .loop .inv) (omega arith)
 
 pub load-tallies-spec : {M : Type 1} → statement M
 load-tallies-spec =
