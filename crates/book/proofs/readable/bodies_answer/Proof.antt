@@ -1,22 +1,21 @@
 -- `bodies_answer` asks one body's record after the other, and a record is answered as its body's pile is.
 -- Assumes nothing.
-use Prim.Native.Nat.{ℕ, _-_, _≤_}
+use Prim.Native.Nat.{ℕ, _-_}
 use native.Mathlib.Omega.{arith}
-use mathlib.Core.Path.{_≡_, refl, sym, ap, _∙_}
-use Rattle.rules.specs.Refusals.{first}
+use mathlib.Core.Path.{_≡_, ap, _∙_}
 use Rattle.rules.specs.Pile.{pileAnswer}
 use Rattle.rules.specs.Layout.{bodyView, bodyAt}
 use Rattle.rules.specs.Record.{recordAnswer}
-use Rattle.rules.proofs.Loops.Refusals.{first-next, first-stops}
 use Rattle.rules.proofs.Record.RecordOf.{record-of-answer}
 use borrow.Author.Needs.{needs}
 use Rattle.book.proofs.Lengths.{body-within}
+use Rattle.book.proofs.Passed.{Passed, none-asked, next-passed, refused-first, all-passed}
 use Rattle.book.proofs.readable.bodies_answer.Statement.{statement}
 use Rattle.book.proofs.readable.bodies_answer.Tie as tie
 
 abbrev Inv-loop : tie.InvT-loop
 Inv-loop book n p size at₀ k₀ at k =
-    (k ≤ p) × (at ≡ bodyAt n p k) × (first k (λ j. pileAnswer n (bodyView n book (bodyAt n p j))) ≡ 0)
+    (at ≡ bodyAt n p k) × Passed p (λ j. pileAnswer n (bodyView n book (bodyAt n p j))) k
 
 abbrev μ-loop : tie.MeasureT-loop
 μ-loop book n p size at₀ k₀ at k = p - k
@@ -31,7 +30,7 @@ answered c =
     let at = c .before .before .before in
     let a = start at .args in
     c .check .ensures ∙ ap recordAnswer (c .before .load .ensures) ∙ record-of-answer (a .n) _ (start at .pre .ranges .desks-most) (start at .pre .ranges .desks-least)
-    ∙ ap (λ (x : ℕ). pileAnswer (a .n) (bodyView (a .n) (a .book .now) x)) (at .loop .inv .1)
+    ∙ ap (λ (x : ℕ). pileAnswer (a .n) (bodyView (a .n) (a .book .now) x)) (at .loop .inv .0)
 
 body-length-requires : tie.Need-body-length-requires Inv-loop μ-loop
 body-length-requires c κs = search needs
@@ -40,8 +39,7 @@ body-at-requires : tie.Need-body-at-requires Inv-loop μ-loop
 body-at-requires c κs = search needs
 
 loop-holds : tie.Need-loop-holds Inv-loop μ-loop
-unfolding first
-loop-holds c = (search needs, c .body-at .ensures, refl)
+loop-holds c = (c .body-at .ensures, none-asked)
 
 load-requires : tie.Need-load-requires Inv-loop μ-loop
 load-requires c κs =
@@ -52,9 +50,7 @@ check-requires c κs = search needs
 
 returns : tie.Need-returns Inv-loop μ-loop
 returns c =
-    let at = c .before .before .before .before in
-    answered (c .before)
-    ∙ sym (first-stops _ _ (at .loop .k) (c .before .before .before .loop-test .taken) (at .loop .inv .2) (λ z. c .if1 .taken (answered (c .before) ∙ z)))
+    let now = c .before .before .before in refused-first (now .before .loop .inv .1) (now .loop-test .taken) (answered (c .before)) (c .if1 .taken)
 
 add-at : tie.Need-add-at Inv-loop μ-loop
 add-at c =
@@ -71,16 +67,11 @@ loop-less c = search needs
 loop-again : tie.Need-loop-again Inv-loop μ-loop
 unfolding bodyAt
 loop-again c =
-    let at = c .before .before .before .before in (
-      search needs,
-      search needs,
-      first-next _ _ (at .loop .inv .2) (sym (answered (c .before)) ∙ c .if1 .left),
-    )
+    let now = c .before .before .before in
+    (search needs, next-passed (now .before .loop .inv .1) (now .loop-test .taken) (answered (c .before)) (c .if1 .left))
 
 returns-2 : tie.Need-returns-2 Inv-loop μ-loop
-returns-2 c =
-    let done : c .before .loop .k ≡ start (c .before) .args .p = omega arith in
-    sym (rw done at (c .before .loop .inv .2))
+returns-2 c = all-passed (c .before .loop .inv .1) (omega arith)
 
 pub bodies-answer-spec : {M : Type 1} → statement M
 bodies-answer-spec =
