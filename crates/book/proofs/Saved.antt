@@ -1,10 +1,11 @@
 -- What writing a number leaves, and writing the runs of numbers that make up a row of a body and a body.
 -- Assumes nothing.
-use Prim.Native.Nat.{ℕ, zero, suc, _+_, _*_, _≤_}
+use Prim.Native.Nat.{ℕ, suc, _+_, _*_, _≤_}
 use native.Mathlib.Nat.{zero-add}
+use native.Mathlib.Numerals.{one-add}
 use native.Mathlib.Omega.{arith}
 use mathlib.Core.Path.{_≡_, ap, ap₂, sym, _∙_}
-use mathlib.Core.List.{List, [], _∷_, _++_, append-nil, append-assoc}
+use mathlib.Core.List.{List, [], _∷_, _++_}
 use lib.ListN.{length, getD, length-append}
 use lib.Seq.{sets, getD-append-add}
 use borrow.Author.Tests.{le-ltb}
@@ -13,7 +14,7 @@ use Rattle.rules.specs.Numbers.{bytes, encode, putAnswer, afterPut}
 use Rattle.rules.specs.Layout.{rowLength, bodyLength, rowOf, bodyRow, bodyBytes}
 use Rattle.rules.specs.Record.{Record, recordCell, recordView, rowPlaces}
 use Rattle.rules.proofs.Loops.Refusals.{not-met, when-accepted}
-use Rattle.rules.proofs.Loops.Pieces.{flat-cong, length-list, list-add, list-cong}
+use Rattle.rules.proofs.Loops.Pieces.{flat-cong, flat-add, length-list, list-add, list-cong}
 use Rattle.rules.proofs.Bytes.Numbers.{encode-append, length-encode}
 use Rattle.rules.proofs.Bytes.Put.{sets-append}
 use Rattle.rules.proofs.File.Body.{length-body-row}
@@ -26,8 +27,7 @@ put-fits w b at x l = when-accepted _ _ _ (not-met 8 (le-ltb _ _ l))
 -- the first of some pieces apart
 flat-first : (m : ℕ) (f : ℕ → List ℕ) → flat (suc m) f ≡ f 0 ++ flat m (λ k. f (suc k))
 unfolding flat
-flat-first zero f = sym (append-nil (f 0))
-flat-first (suc m) f = rw (flat-first m f, append-assoc)
+flat-first m f = simp one-add at (flat-add 1 m f)
 
 -- a run: so many numbers of an array, from a place on
 abbrev pub run : List ℕ → ℕ → ℕ → List ℕ

@@ -1,10 +1,11 @@
 -- `bodies_answer` asks one body's record after the other, and a record is answered as its body's pile is.
 -- Assumes nothing.
-use Prim.Native.Nat.{ℕ, _-_}
+use Prim.Native.Nat.{ℕ, _+_, _-_, _≤_}
 use native.Mathlib.Omega.{arith}
 use mathlib.Core.Path.{_≡_, ap, _∙_}
+use lib.ListN.{length}
 use Rattle.rules.specs.Pile.{pileAnswer}
-use Rattle.rules.specs.Layout.{bodyView, bodyAt}
+use Rattle.rules.specs.Layout.{bodyLength, bodyView, bodyAt}
 use Rattle.rules.specs.Record.{recordAnswer}
 use Rattle.rules.proofs.Record.RecordOf.{record-of-answer}
 use borrow.Author.Needs.{needs}
@@ -22,6 +23,10 @@ abbrev μ-loop : tie.MeasureT-loop
 
 abbrev start : tie.At-loop Inv-loop μ-loop → tie.Start Inv-loop μ-loop
 start c = c .before .before .before .before
+
+-- the body of this turn lies within the book
+within : (c : tie.In-loop Inv-loop μ-loop) → let a = start (c .before) .args in c .before .loop .at + bodyLength (a .n) ≤ length (a .book .now)
+within c = let a = start (c .before) .args in omega (arith, body-within (a .n) (a .p) (c .before .loop .k) (c .loop-test .taken))
 
 -- the loaded record is answered as the body's pile
 answered : (c : tie.After-check Inv-loop μ-loop) → let at = c .before .before .before in let a = start at .args in
@@ -42,8 +47,7 @@ loop-holds : tie.Need-loop-holds Inv-loop μ-loop
 loop-holds c = (c .body-at .ensures, none-asked)
 
 load-requires : tie.Need-load-requires Inv-loop μ-loop
-load-requires c κs =
-    let a = start (c .before) .args in search (needs, body-within (a .n) (a .p) (c .before .loop .k) (c .loop-test .taken))
+load-requires c κs = search (needs, within c)
 
 check-requires : tie.Need-check-requires Inv-loop μ-loop
 check-requires c κs = search needs
@@ -53,10 +57,7 @@ returns c =
     let now = c .before .before .before in refused-first (now .before .loop .inv .1) (now .loop-test .taken) (answered (c .before)) (c .if1 .taken)
 
 add-at : tie.Need-add-at Inv-loop μ-loop
-add-at c =
-    let at = c .before .before .before .before in
-    let a = start at .args in
-    search (needs, body-within (a .n) (a .p) (at .loop .k) (c .before .before .before .loop-test .taken))
+add-at c = search (needs, within (c .before .before .before))
 
 add-k : tie.Need-add-k Inv-loop μ-loop
 add-k c = search needs
