@@ -3,7 +3,7 @@
 use Prim.Native.Nat.{ℕ, _+_, _*_, _≤_}
 use native.Mathlib.Nat.{le-of-eq}
 use native.Mathlib.Omega.{arith}
-use mathlib.Core.Path.{_≡_, ap, sym, _∙_}
+use mathlib.Core.Path.{_≡_, sym}
 use mathlib.Core.Bool.{true, not}
 use mathlib.Core.List.{List, [], _∷_, _++_}
 use lib.ListN.{length}
@@ -18,12 +18,12 @@ use Rattle.rules.specs.Record.{Record, recordView, recordOf}
 use Rattle.rules.specs.Opening.{rising, given, givenPile, openingAnswer, opened}
 use Rattle.rules.proofs.Loops.Refusals.{when-done, when-not-done, orElse-first, orElse-rest}
 use Rattle.rules.proofs.Bytes.Numbers.{length-bytes}
-use Rattle.rules.proofs.Bytes.Put.{sets-append}
 use Rattle.rules.proofs.File.Body.{body-cong}
 use Rattle.rules.proofs.File.Written.{length-contents}
 use Rattle.rules.proofs.File.Opened.{opened-frame}
 use Rattle.rules.proofs.Record.RecordOf.{record-agrees}
 use Rattle.book.specs.Listed.{Openings}
+use Rattle.book.proofs.Pieces.{sets-behind}
 use Rattle.book.proofs.Saved.{put-fits}
 
 abbrev pub body : ℕ → List ℕ → ℕ → List ℕ
@@ -52,8 +52,7 @@ module _ (n p : ℕ) (l : List ℕ) where
         put-fits 2 b (entryAt k) (given n l k 0) (omega arith),
         put-fits 4 (sets b (entryAt k) v) (positionAt k) (bodyAt n p k) (omega (arith, length-sets b (entryAt k) v)),
       )
-      (ap (λ (j : ℕ). sets (sets b (entryAt k) v) j (bytes 4 (bodyAt n p k))) (omega (arith, length-bytes 2 (given n l k 0)))
-      ∙ sym (sets-append b (entryAt k) v (bytes 4 (bodyAt n p k))))
+      (sets-behind b (entryAt k) v (positionAt k) (bytes 4 (bodyAt n p k)) (omega (arith, length-bytes 2 (given n l k 0))))
 
   -- head and contents, and then the bodies, are the opened book
   pub put-book : (b : List ℕ) {front after : List ℕ} → front ≡ sets b 0 ((1 ∷ n ∷ p ∷ 0 ∷ []) ++ flat p entry)
@@ -62,8 +61,7 @@ module _ (n p : ℕ) (l : List ℕ) where
   put-book b front bodies =
       let v : List ℕ = 1 ∷ n ∷ p ∷ 0 ∷ flat p entry in
       let long : length (flat p entry) ≡ p * 6 = length-contents n p (λ k. given n l k 0) (givenPile n l) in
-      rw (bodies, front)
-      (ap (λ (j : ℕ). sets (sets b 0 v) j (flat p (body n l))) (omega (arith, long)) ∙ sym (sets-append b 0 v (flat p (body n l))))
+      rw (bodies, front) (sets-behind b 0 v (bodyAt n p 0) (flat p (body n l)) (omega (arith, long)))
 
 -- what an accepted opening tells
 pub record Accepted (n p : ℕ) (l : List ℕ) (room : ℕ) : Type 0 where

@@ -4,8 +4,8 @@ use Prim.Native.Nat.{ℕ, _+_, _*_, _≤_, _<_}
 use native.Mathlib.Nat.{mul-le-mul-right}
 use native.Mathlib.Numerals.{add-one}
 use native.Mathlib.Omega.{arith}
-use mathlib.Core.Path.{_≡_, refl, _∙_}
-use mathlib.Core.List.{List, [], _∷_}
+use mathlib.Core.Path.{_≡_, refl, sym, _∙_}
+use mathlib.Core.List.{List, [], _∷_, _++_}
 use lib.ListN.{length, set}
 use lib.Seq.{sets, length-sets}
 use Rattle.rules.specs.Loops.{flat, list}
@@ -15,6 +15,10 @@ use Rattle.rules.proofs.Bytes.Put.{sets-append}
 -- piece k of m pieces of one length ends where they do, or before
 pub piece-within : (ℓ : ℕ) {k m : ℕ} → k < m → k * ℓ + ℓ ≤ m * ℓ
 piece-within ℓ l = omega (arith, mul-le-mul-right ℓ l)
+
+-- what is written in two goes, the second behind the first
+pub sets-behind : (b : List ℕ) (at : ℕ) (v : List ℕ) (to : ℕ) (w : List ℕ) → to ≡ at + length v → sets (sets b at v) to w ≡ sets b at (v ++ w)
+sets-behind b at v to w e = rw e (sym (sets-append b at v w))
 
 -- the first k of m pieces are in a list, which was b
 pub record Written (b : List ℕ) (at m : ℕ) (piece : ℕ → List ℕ) (k : ℕ) (l : List ℕ) : Type 0 where
@@ -38,7 +42,7 @@ module _ {b : List ℕ} {at m : ℕ} {piece : ℕ → List ℕ} where
       record {
         counted = omega arith;
         long = rw (put, length-sets) (w .long);
-        is = put ∙ rw (w .is, behind, add-one k, sets-append b at (flat k piece) (piece k), length-flat k ℓ piece (λ j _. sized j));
+        is = put ∙ rw (w .is, add-one k) (sets-behind b at (flat k piece) _ (piece k) (omega (arith, length-flat k ℓ piece (λ j _. sized j))));
       }
 
 -- pieces of one number

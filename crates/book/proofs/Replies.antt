@@ -77,5 +77,6 @@ module _ (b : List ℕ) (number : ℕ) {m : ℕ} (answer : m ≡ deskAnswer 0 b 
     pub tonnage-found : {r : Record} → r ≡ recordOf (desks b) (pileOf b k) → recordTonnageReply r ≡ tonnageReply b number
     unfolding tonnageReply reply
     tonnage-found is =
-        rw (is, at) (let l = has-place 0 b number answer z at in body-tonnage b (place b number) (l .readable) (subst⁻¹ (λ (j : ℕ). j < piles b) (sym at) (l .below)))
+        let e = sym answer ∙ z in
+        rw (is, at) (body-tonnage b (place b number) (found-readable 0 b number e) (found-place 0 b number e))
         ∙ sym (when-accepted _ _ _ fetchable)

@@ -18,6 +18,7 @@ use Rattle.rules.proofs.Loops.Pieces.{flat-cong, flat-add, length-list, list-ad
 use Rattle.rules.proofs.Bytes.Numbers.{encode-append, length-encode}
 use Rattle.rules.proofs.Bytes.Put.{sets-append}
 use Rattle.rules.proofs.File.Body.{length-body-row}
+use Rattle.book.proofs.Pieces.{sets-behind}
 
 -- a number that fits is written
 pub put-fits : (w : ℕ) (b : List ℕ) (at x : ℕ) → at + w ≤ length b → afterPut w b at x ≡ sets b at (bytes w x)
@@ -39,7 +40,7 @@ length-run numbers from count = length-list count (λ k. getD numbers (from + k)
 -- numbers that are written in two goes
 sets-goes : (b : List ℕ) (at at′ : ℕ) (l l′ : List ℕ) → at′ ≡ at + length l * 4
     → sets (sets b at (encode l)) at′ (encode l′) ≡ sets b at (encode (l ++ l′))
-sets-goes b at at′ l l′ e = rw (encode-append l l′, sets-append b at (encode l) (encode l′), length-encode l, e)
+sets-goes b at at′ l l′ e = rw (encode-append l l′) (sets-behind b at (encode l) at′ (encode l′) (omega (arith, length-encode l)))
 
 -- the rows of a body: the opening and n more
 pub body-room : (n : ℕ) → 8 * (n + 1) + n * rowLength n ≡ bodyLength n
