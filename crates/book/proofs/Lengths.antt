@@ -1,6 +1,6 @@
 -- A body is short, so that no position in a book wraps; nor does one in the list that a book is opened from.
 -- Assumes nothing.
-use Prim.Native.Nat.{ℕ, _+_, _*_, _≤_}
+use Prim.Native.Nat.{ℕ, _+_, _*_, _≤_, _<_}
 use native.Mathlib.Nat.{add-zero, mul-le-mul, mul-le-mul-right}
 use native.Mathlib.Omega.{arith}
 use mathlib.Core.Path.{_≡_, ap, sym}
@@ -8,6 +8,8 @@ use mathlib.Core.List.{List}
 use lib.ListN.{getD}
 use Rattle.rules.specs.Layout.{bodyLength, bodyAt, bookLength, deskLimit, pileLimit, frontLength}
 use Rattle.rules.specs.Opening.{given}
+use Rattle.book.specs.Listed.{Listed}
+use Rattle.book.proofs.Pieces.{piece-within}
 pub use Rattle.rules.proofs.File.Cells.{body-within}
 
 pub body-most : (n : ℕ) → n ≤ deskLimit → bodyLength n ≤ 648
@@ -37,7 +39,11 @@ given-most n k l m =
     let high : 3 + 2 * n ≤ 19 = omega arith in
     mul-le-mul m high
 
--- the number of pile k
+-- pile k is in the list, and its number is the first of its own
+pub pile-listed : {n p k : ℕ} {l : List ℕ} → Listed n p l → k < p → Listed n (k + 1) l
+pile-listed {n} listed k<p =
+    record { desks-most = listed .desks-most; piles-most = omega arith; long = omega (arith, piece-within (3 + 2 * n) k<p) }
+
 pub given-number : (n : ℕ) (l : List ℕ) (k : ℕ) → getD l (k * (3 + 2 * n)) 0 ≡ given n l k 0
 unfolding given
 given-number n l k = ap (λ (j : ℕ). getD l j 0) (sym (add-zero (k * (3 + 2 * n))))

@@ -1,6 +1,6 @@
 -- `put_bodies` saves one given pile after the other, each behind the one before it.
 -- Assumes nothing.
-use Prim.Native.Nat.{_+_, _-_, _*_, _≤_}
+use Prim.Native.Nat.{_+_, _-_, _≤_}
 use native.Mathlib.Omega.{arith}
 use mathlib.Core.Path.{_≡_, _∙_}
 use lib.ListN.{length}
@@ -8,8 +8,8 @@ use Rattle.rules.specs.Layout.{bodyAt, bodyLength}
 use Rattle.rules.specs.Opening.{givenPile}
 use Rattle.rules.proofs.Loops.Refusals.{first-at}
 use Rattle.rules.proofs.File.Body.{length-body}
-use Rattle.book.proofs.Pieces.{piece-within, Written, none-written, next-written, all-written}
-use Rattle.book.proofs.Lengths.{body-within}
+use Rattle.book.proofs.Pieces.{Written, none-written, next-written, all-written}
+use Rattle.book.proofs.Lengths.{body-within, pile-listed}
 use Rattle.book.proofs.Opened.{body, record-body}
 use borrow.Author.Needs.{needs}
 use Rattle.book.proofs.front.put_bodies.Statement.{statement}
@@ -45,7 +45,7 @@ loop-holds : tie.Need-loop-holds Inv-loop μ-loop
 loop-holds c = (c .body-at .ensures, none-written)
 
 given-pile-requires : tie.Need-given-pile-requires Inv-loop μ-loop
-given-pile-requires c κs = search (needs, piece-within (3 + 2 * start (c .before) .args .n) (c .loop-test .taken))
+given-pile-requires c κs = search (needs, pile-listed (start (c .before) .pre .openings .listed) (c .loop-test .taken))
 
 save-requires : tie.Need-save-requires Inv-loop μ-loop
 save-requires c κs = search (needs, room (c .before .before .before))

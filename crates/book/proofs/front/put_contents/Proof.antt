@@ -3,12 +3,12 @@
 use Prim.Native.Nat.{_+_, _-_, _*_, _<_}
 use native.Mathlib.Omega.{arith}
 use mathlib.Core.Path.{refl}
-use lib.ListN.{length, getD}
+use lib.ListN.{getD}
 use Rattle.rules.specs.Opening.{givenPile}
 use Rattle.rules.proofs.File.Rising.{number-most}
 use Rattle.rules.proofs.File.Written.{length-entry}
-use Rattle.book.proofs.Pieces.{piece-within, Written, none-written, next-written, all-written}
-use Rattle.book.proofs.Lengths.{position-most, given-number}
+use Rattle.book.proofs.Pieces.{Written, none-written, next-written, all-written}
+use Rattle.book.proofs.Lengths.{position-most, pile-listed, given-number}
 use Rattle.book.proofs.Opened.{entry, put-entry}
 use borrow.Author.Needs.{needs}
 use Rattle.book.proofs.front.put_contents.Statement.{statement}
@@ -29,11 +29,7 @@ two c = c .before .before .before .before
 abbrev turn : tie.After-body-at Inv-loop μ-loop → tie.In-loop Inv-loop μ-loop
 turn c = two c .before .before .before
 
--- the number of pile k is in the list, and has 2 bytes
-within : (c : tie.In-loop Inv-loop μ-loop)
-    → c .before .loop .k * (3 + 2 * start (c .before) .args .n) < length (start (c .before) .args .numbers .now)
-within c = omega (arith, piece-within (3 + 2 * start (c .before) .args .n) (c .loop-test .taken))
-
+-- the number of pile k has 2 bytes
 short : (c : tie.In-loop Inv-loop μ-loop)
     → getD (start (c .before) .args .numbers .now) (c .before .loop .k * (3 + 2 * start (c .before) .args .n)) 0 < 65536
 short c = rw given-number (number-most _ _ (start (c .before) .pre .rises) (c .before .loop .k) (c .loop-test .taken))
@@ -54,13 +50,13 @@ add-put2-2 : tie.Need-add-put2-2 Inv-loop μ-loop
 add-put2-2 c = search needs
 
 mul-put2-3 : tie.Need-mul-put2-3 Inv-loop μ-loop
-mul-put2-3 c = search (needs, within (c .before))
+mul-put2-3 c = search (needs, pile-listed (start (c .before .before) .pre .listed) (c .before .loop-test .taken))
 
 mul-put2-4 : tie.Need-mul-put2-4 Inv-loop μ-loop
-mul-put2-4 c = search (needs, within (c .before))
+mul-put2-4 c = search (needs, pile-listed (start (c .before .before) .pre .listed) (c .before .loop-test .taken))
 
 shared-slice-read-put2 : tie.Need-shared-slice-read-put2 Inv-loop μ-loop
-shared-slice-read-put2 c = search (needs, within (c .before .before))
+shared-slice-read-put2 c = search (needs, pile-listed (start (c .before .before .before) .pre .listed) (c .before .before .loop-test .taken))
 
 cast-put2 : tie.Need-cast-put2 Inv-loop μ-loop
 cast-put2 c = search (needs, short (c .before .before))

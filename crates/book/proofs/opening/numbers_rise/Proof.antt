@@ -1,15 +1,13 @@
 -- `numbers_rise` tests one number after the other against the one before it and the highest, and stops at the first that is wrong.
 -- Assumes nothing.
-use Prim.Native.Nat.{_+_, _-_, _*_, _<_}
+use Prim.Native.Nat.{_-_}
 use native.Mathlib.Omega.{arith}
 use mathlib.Core.Path.{sym}
 use mathlib.Core.Logic.{inl, inr}
-use lib.ListN.{length}
 use borrow.Author.Needs.{needs}
 use Rattle.rules.specs.Opening.{given}
 use Rattle.book.proofs.Rising.{Risen, none-risen, next-risen, not-risen, all-risen}
-use Rattle.book.proofs.Pieces.{piece-within}
-use Rattle.book.proofs.Lengths.{given-number}
+use Rattle.book.proofs.Lengths.{pile-listed, given-number}
 use Rattle.book.proofs.opening.numbers_rise.Statement.{statement}
 use Rattle.book.proofs.opening.numbers_rise.Tie as tie
 
@@ -18,10 +16,6 @@ Inv-loop numbers n p last₀ k₀ last k = Risen p (λ j. given n numbers j 0) k
 
 abbrev μ-loop : tie.MeasureT-loop
 μ-loop numbers n p last₀ k₀ last k = p - k
-
--- the number of pile k is in the list
-within : (c : tie.In-loop Inv-loop μ-loop) → c .before .loop .k * (3 + 2 * c .before .before .args .n) < length (c .before .before .args .numbers .now)
-within c = omega (arith, piece-within (3 + 2 * c .before .before .args .n) (c .loop-test .taken))
 
 loop-holds : tie.Need-loop-holds Inv-loop μ-loop
 loop-holds c = none-risen
@@ -33,13 +27,13 @@ add-number : tie.Need-add-number Inv-loop μ-loop
 add-number c = search needs
 
 mul-number-2 : tie.Need-mul-number-2 Inv-loop μ-loop
-mul-number-2 c = search (needs, within c)
+mul-number-2 c = search (needs, pile-listed (c .before .before .pre) (c .loop-test .taken))
 
 mul-number-3 : tie.Need-mul-number-3 Inv-loop μ-loop
-mul-number-3 c = search (needs, within c)
+mul-number-3 c = search (needs, pile-listed (c .before .before .pre) (c .loop-test .taken))
 
 shared-slice-read-number : tie.Need-shared-slice-read-number Inv-loop μ-loop
-shared-slice-read-number c = search (needs, within (c .before))
+shared-slice-read-number c = search (needs, pile-listed (c .before .before .before .pre) (c .before .loop-test .taken))
 
 returns : tie.Need-returns Inv-loop μ-loop
 returns c =

@@ -1,13 +1,13 @@
 -- `openings_answer` asks one pile after the other, and stops at the first that is refused.
 -- Assumes nothing.
-use Prim.Native.Nat.{_+_, _-_, _*_}
+use Prim.Native.Nat.{_-_}
 use native.Mathlib.Omega.{arith}
 use mathlib.Core.Bool.{not}
 use borrow.Author.Needs.{needs}
 use Rattle.rules.specs.Refusals.{_when_}
 use Rattle.rules.specs.Pile.{openingLawful}
 use Rattle.rules.specs.Opening.{givenPile}
-use Rattle.book.proofs.Pieces.{piece-within}
+use Rattle.book.proofs.Lengths.{pile-listed}
 use Rattle.book.proofs.Passed.{Passed, none-asked, next-passed, refused-first, all-passed}
 use Rattle.book.proofs.opening.openings_answer.Statement.{statement}
 use Rattle.book.proofs.opening.openings_answer.Tie as tie
@@ -22,7 +22,7 @@ loop-holds : tie.Need-loop-holds Inv-loop μ-loop
 loop-holds c = none-asked
 
 given-pile-requires : tie.Need-given-pile-requires Inv-loop μ-loop
-given-pile-requires c κs = search (needs, piece-within (3 + 2 * c .before .before .before .args .n) (c .loop-test .taken))
+given-pile-requires c κs = search (needs, pile-listed (c .before .before .before .pre .listed) (c .loop-test .taken))
 
 returns : tie.Need-returns Inv-loop μ-loop
 returns c =
