@@ -35,6 +35,7 @@ module _ (i : ℕ) (b : List ℕ) (number : ℕ) {m : ℕ} (answer : m ≡ deskA
     has-place =
         record { readable = found-readable i b number found; below = subst⁻¹ (λ (k : ℕ). k < piles b) at (found-place i b number found) }
 
+    -- the same as a pair
     pub place-is : (bookAnswer b ≡ 0) × (k < piles b)
     place-is = (has-place .readable, has-place .below)
 

@@ -10,13 +10,13 @@ use Rattle.rules.specs.Pile.{openingLawful}
 use Rattle.rules.specs.Layout.{deskLimit, pileLimit, frontLength, bookLength}
 use Rattle.rules.specs.Opening.{rising, given, givenPile}
 
--- the numbers of p piles of n desks are in the list; pile k is where those of k + 1 piles are
+-- The list has the numbers of p piles of n desks. It has those of pile k where it has those of k + 1 piles.
 pub record Listed (n p : ℕ) (l : List ℕ) : Type 0 where
   pub desks-most : n ≤ deskLimit
   pub piles-most : p ≤ pileLimit
   pub long : p * (3 + 2 * n) ≤ length l
 
--- and there is a desk, so that they are openings
+-- and there is a desk, as an opening has
 pub record Openings (n p : ℕ) (l : List ℕ) : Type 0 where
   pub desks-least : 1 ≤ n
   pub listed : Listed n p l

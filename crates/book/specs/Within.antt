@@ -1,4 +1,4 @@
--- Parts of a book that lie within the bytes at hand.
+-- What the functions that read and write a book ask of its bytes: that a part lies within them, or that they are a book.
 -- Assumes nothing.
 use Prim.Native.Nat.{ℕ, _+_, _*_, _≤_, _<_}
 use mathlib.Core.Path.{_≡_}
@@ -18,13 +18,13 @@ pub record BodyWithin (n at : ℕ) (b : List ℕ) : Type 0 where
   pub desks-most : n ≤ deskLimit
   pub within : at + bodyLength n ≤ length b
 
--- the rows of n desks, from a position on, and all 8 rows of an array that they are written from
+-- the rows of n desks, from a position on, where the array that they are written from has all 8
 pub record RowsWithin (n at : ℕ) (b tallies : List ℕ) : Type 0 where
   pub desks-most : n ≤ deskLimit
   pub within : at + n * rowLength n ≤ length b
   pub all-there : length tallies ≡ tallyPlaces
 
--- desks and piles as many as a book may have; there may be no pile
+-- as many desks and piles as a book may have, or no pile
 pub record Ranges (n p : ℕ) : Type 0 where
   pub desks-least : 1 ≤ n
   pub desks-most : n ≤ deskLimit

@@ -16,8 +16,7 @@ use Rattle.book.proofs.front.put_bodies.Statement.{statement}
 use Rattle.book.proofs.front.put_bodies.Tie as tie
 
 abbrev Inv-loop : tie.InvT-loop
-Inv-loop out₀ n p numbers size at₀ k₀ out at k =
-    (at ≡ bodyAt n p k) × Written out₀ (bodyAt n p 0) p (body n numbers) k out
+Inv-loop out₀ n p numbers size at₀ k₀ out at k = (at ≡ bodyAt n p k) × Written out₀ (bodyAt n p 0) p (body n numbers) k out
 
 abbrev μ-loop : tie.MeasureT-loop
 μ-loop out₀ n p numbers size at₀ k₀ out at k = p - k

@@ -17,8 +17,7 @@ use Rattle.book.proofs.head.contents_sound.Statement.{statement}
 use Rattle.book.proofs.head.contents_sound.Tie as tie
 
 abbrev Inv-loop : tie.InvT-loop
-Inv-loop book n p last₀ k₀ last k =
-    Risen p (pileNumber book) k last × (every k (λ j. eqb (position book j) (bodyAt n p j)) ≡ true)
+Inv-loop book n p last₀ k₀ last k = Risen p (pileNumber book) k last × (every k (λ j. eqb (position book j) (bodyAt n p j)) ≡ true)
 
 abbrev μ-loop : tie.MeasureT-loop
 μ-loop book n p last₀ k₀ last k = p - k

@@ -15,8 +15,7 @@ use Rattle.book.proofs.readable.bodies_answer.Statement.{statement}
 use Rattle.book.proofs.readable.bodies_answer.Tie as tie
 
 abbrev Inv-loop : tie.InvT-loop
-Inv-loop book n p size at₀ k₀ at k =
-    (at ≡ bodyAt n p k) × Passed p (λ j. pileAnswer n (bodyView n book (bodyAt n p j))) k
+Inv-loop book n p size at₀ k₀ at k = (at ≡ bodyAt n p k) × Passed p (λ j. pileAnswer n (bodyView n book (bodyAt n p j))) k
 
 abbrev μ-loop : tie.MeasureT-loop
 μ-loop book n p size at₀ k₀ at k = p - k
@@ -34,7 +33,8 @@ answered : (c : tie.After-check Inv-loop μ-loop) → let at = c .before .before
 answered c =
     let at = c .before .before .before in
     let a = start at .args in
-    c .check .ensures ∙ ap recordAnswer (c .before .load .ensures) ∙ record-of-answer (a .n) _ (start at .pre .ranges .desks-most) (start at .pre .ranges .desks-least)
+    c .check .ensures ∙ ap recordAnswer (c .before .load .ensures)
+    ∙ record-of-answer (a .n) _ (start at .pre .ranges .desks-most) (start at .pre .ranges .desks-least)
     ∙ ap (λ (x : ℕ). pileAnswer (a .n) (bodyView (a .n) (a .book .now) x)) (at .loop .inv .0)
 
 body-length-requires : tie.Need-body-length-requires Inv-loop μ-loop

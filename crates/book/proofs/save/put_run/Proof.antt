@@ -13,8 +13,7 @@ use Rattle.book.proofs.save.put_run.Statement.{statement}
 use Rattle.book.proofs.save.put_run.Tie as tie
 
 abbrev Inv-loop : tie.InvT-loop
-Inv-loop book₀ at numbers from count k₀ book k =
-    Written book₀ at count (λ j. bytes 4 (getD numbers (from + j) 0)) k book
+Inv-loop book₀ at numbers from count k₀ book k = Written book₀ at count (λ j. bytes 4 (getD numbers (from + j) 0)) k book
 
 abbrev μ-loop : tie.MeasureT-loop
 μ-loop book₀ at numbers from count k₀ book k = count - k

@@ -12,8 +12,7 @@ use Rattle.book.proofs.save.save_rows.Statement.{statement}
 use Rattle.book.proofs.save.save_rows.Tie as tie
 
 abbrev Inv-loop : tie.InvT-loop
-Inv-loop book₀ n at tallies row i₀ book i =
-    Written book₀ at n (λ j. encode (tallyRow n tallies j)) i book
+Inv-loop book₀ n at tallies row i₀ book i = Written book₀ at n (λ j. encode (tallyRow n tallies j)) i book
 
 abbrev μ-loop : tie.MeasureT-loop
 μ-loop book₀ n at tallies row i₀ book i = n - i
