@@ -1,7 +1,7 @@
 -- A body is short, so that no position in a book wraps; nor does one in the list that a book is opened from.
 -- Assumes nothing.
 use Prim.Native.Nat.{ℕ, _+_, _*_, _≤_, _<_}
-use native.Mathlib.Nat.{add-zero, mul-le-mul, mul-le-mul-right}
+use native.Mathlib.Nat.{add-zero, mul-le-mul}
 use native.Mathlib.Omega.{arith}
 use mathlib.Core.Path.{_≡_, ap, sym}
 use mathlib.Core.List.{List}
@@ -19,9 +19,9 @@ body-most n l =
     omega (arith, mul-le-mul high high)
 
 -- row r, and all before it, lie within a body
-pub row-within : (n r : ℕ) → r ≤ n → r * (8 * (n + 1)) + 8 * (n + 1) ≤ bodyLength n
+pub row-within : (n r : ℕ) → r < n + 1 → r * (8 * (n + 1)) + 8 * (n + 1) ≤ bodyLength n
 unfolding bodyLength
-row-within n r l = omega (arith, mul-le-mul-right (8 * (n + 1)) l)
+row-within n r l = omega (arith, piece-within (8 * (n + 1)) l)
 
 -- the contents lies within the book
 pub contents-within : (n p : ℕ) → frontLength p ≤ bookLength n p
