@@ -8,15 +8,16 @@ use mathlib.Core.List.{List}
 use lib.ListN.{length}
 use lib.Dec.{eqb}
 use lib.Seq.{sets}
-use borrow.Author.Tests.{lt-ltb, le-ltb, eq-eqb, ne-eqb, leb-true}
-use Rattle.rules.specs.Loops.{_and_, between}
+use borrow.Author.Tests.{lt-ltb, le-ltb, eq-eqb, ne-eqb}
+use Rattle.rules.specs.Loops.{_and_}
 use Rattle.rules.specs.Refusals.{_when_, _orElse_, first}
 use Rattle.rules.specs.Pile.{pileAnswer, sameOpening}
-use Rattle.rules.specs.Layout.{desks, piles, bookLength, bodyAt, pileOf, bodyBytes}
+use Rattle.rules.specs.Layout.{desks, piles, bookLength, bodyAt, pileOf, bodyBytes, Sizes}
 use Rattle.rules.specs.Book.{headSound, contentsSound, bookAnswer, place, absent, fetchAnswer, deskAnswer}
 use Rattle.rules.specs.Record.{Record, recordView, recordAnswer, storeAnswer, afterStore}
 use Rattle.rules.proofs.Loops.Logic.{and-left, and-right}
-use Rattle.rules.proofs.Loops.Refusals.{orElse-stands, orElse-passes, when-accepted, when-refused}
+use Rattle.rules.proofs.Loops.Refusals.{own-refusal, orElse-passes, when-accepted, when-refused}
+use Rattle.rules.proofs.File.Readable.{sizes-range}
 
 module _ (b : List ℕ) where
   pub answer-1 : length b < 4 → 1 ≡ bookAnswer b
@@ -29,15 +30,9 @@ module _ (b : List ℕ) where
     answer-2 e = rw (le-ltb _ _ long, e)
 
     module _ (head : headSound b ≡ true) where
-      pub desks-range : (1 ≤ desks b) × (desks b ≤ 8)
-      unfolding headSound between
-      desks-range =
-          let r = and-left _ _ (and-right _ _ head) in (leb-true _ _ (and-left _ _ r), leb-true _ _ (and-right _ _ r))
-
-      pub piles-range : (1 ≤ piles b) × (piles b ≤ 32)
-      unfolding headSound between
-      piles-range =
-          let r = and-left _ _ (and-right _ _ (and-right _ _ head)) in (leb-true _ _ (and-left _ _ r), leb-true _ _ (and-right _ _ r))
+      pub sizes : Sizes (desks b) (piles b)
+      unfolding headSound
+      sizes = sizes-range _ _ (and-left _ _ (and-right _ _ head))
 
       pub answer-3 : length b ≢ bookLength (desks b) (piles b) → 3 ≡ bookAnswer b
       unfolding bookAnswer _when_ _orElse_
@@ -56,7 +51,7 @@ module _ (b : List ℕ) where
 module _ (b : List ℕ) (i number : ℕ) where
   pub desk-own : (m : ℕ) → m ≡ bookAnswer b → m ≢ 0 → m ≡ deskAnswer i b number
   unfolding deskAnswer
-  desk-own m e d = sym (rw (← e) (orElse-stands m _ d))
+  desk-own m e d = own-refusal e d _
 
   module _ (passed : bookAnswer b ≡ 0) where
     pub desk-11 : desks b ≤ i → 11 ≡ deskAnswer i b number
@@ -83,12 +78,12 @@ module _ (b : List ℕ) (number : ℕ) (r : Record) where
 
   pub store-own : (m : ℕ) → m ≡ fetchAnswer b number → m ≢ 0 → m ≡ storeAnswer b number r
   unfolding storeAnswer
-  store-own m e d = sym (rw (← e) (orElse-stands m _ d))
+  store-own m e d = own-refusal e d _
 
   module _ (found : fetchAnswer b number ≡ 0) where
     pub store-record : (m : ℕ) → m ≡ recordAnswer r → m ≢ 0 → m ≡ storeAnswer b number r
     unfolding storeAnswer
-    store-record m e d = sym (orElse-passes found _ ∙ rw (← e) (orElse-stands m _ d))
+    store-record m e d = own-refusal e d _ ∙ sym (orElse-passes found _)
 
     module _ (passed : recordAnswer r ≡ 0) where
       pub store-30 : agrees ≡ false → 30 ≡ storeAnswer b number r

@@ -1,13 +1,15 @@
 -- A body is short, so that no position in a book wraps; nor does one in the list that a book is opened from.
 -- Assumes nothing.
 use Prim.Native.Nat.{ℕ, _+_, _*_, _≤_, _<_}
-use native.Mathlib.Nat.{add-zero, mul-le-mul, mul-le-mul-right}
+use native.Mathlib.Nat.{add-zero, mul-le-mul}
 use native.Mathlib.Omega.{arith}
 use mathlib.Core.Path.{_≡_, ap, sym}
 use mathlib.Core.List.{List}
 use lib.ListN.{getD}
 use Rattle.rules.specs.Layout.{bodyLength, bodyAt, bookLength, deskLimit, pileLimit, frontLength}
 use Rattle.rules.specs.Opening.{given}
+use Rattle.book.specs.Listed.{Listed}
+use Rattle.rules.proofs.Loops.Ranges.{piece-within}
 pub use Rattle.rules.proofs.File.Written.{body-within}
 
 pub body-most : (n : ℕ) → n ≤ deskLimit → bodyLength n ≤ 648
@@ -17,14 +19,9 @@ body-most n l =
     omega (arith, mul-le-mul high high)
 
 -- row r, and all before it, lie within a body
-pub row-within : (n r : ℕ) → r ≤ n → r * (8 * (n + 1)) + 8 * (n + 1) ≤ bodyLength n
+pub row-within : (n r : ℕ) → r < n + 1 → r * (8 * (n + 1)) + 8 * (n + 1) ≤ bodyLength n
 unfolding bodyLength
-row-within n r l = omega (arith, mul-le-mul-right (8 * (n + 1)) l)
-
--- bodies follow each other
-pub body-next : (n p k : ℕ) → bodyAt n p (k + 1) ≡ bodyAt n p k + bodyLength n
-unfolding bodyAt
-body-next n p k = omega arith
+row-within n r l = omega (arith, piece-within (8 * (n + 1)) l)
 
 -- the contents lies within the book
 pub contents-within : (n p : ℕ) → frontLength p ≤ bookLength n p
@@ -36,16 +33,17 @@ pub position-most : (n p k : ℕ) → n ≤ deskLimit → p ≤ pileLimit → k 
 unfolding bodyAt
 position-most n p k l m j = omega (arith, mul-le-mul j (body-most n l))
 
--- the numbers of the piles before pile k, and that its own follow them
+-- nor is the list of an opening long
 pub given-most : (n k : ℕ) → n ≤ deskLimit → k ≤ pileLimit → k * (3 + 2 * n) ≤ 608
 given-most n k l m =
     let high : 3 + 2 * n ≤ 19 = omega arith in
     mul-le-mul m high
 
-pub given-within : (n : ℕ) {k p : ℕ} → k < p → (k + 1) * (3 + 2 * n) ≤ p * (3 + 2 * n)
-given-within n l = omega (arith, mul-le-mul-right (3 + 2 * n) l)
+-- pile k is in the list, and its number is the first of its own
+pub pile-listed : {n p k : ℕ} {l : List ℕ} → Listed n p l → k < p → Listed n (k + 1) l
+pile-listed {n} listed k<p =
+    record { desks-most = listed .desks-most; piles-most = omega arith; long = omega (arith, piece-within (3 + 2 * n) k<p) }
 
--- the first of its own
 pub given-number : (n : ℕ) (l : List ℕ) (k : ℕ) → getD l (k * (3 + 2 * n)) 0 ≡ given n l k 0
 unfolding given
 given-number n l k = ap (λ (j : ℕ). getD l j 0) (sym (add-zero (k * (3 + 2 * n))))

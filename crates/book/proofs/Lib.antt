@@ -1,3 +1,6 @@
+pub mod Pieces
+pub mod Rising
+pub mod Passed
 pub mod Lengths
 pub mod Loaded
 pub mod Saved

@@ -1,16 +1,16 @@
 -- Runs of a body's numbers, read into arrays of zeros, make up the record's arrays.
 -- Assumes nothing.
 use Prim.Native.Nat.{ℕ, _+_, _*_, _≤_, _<_}
-use native.Mathlib.Nat.{not-suc-le-zero, eq-or-lt-of-le, le-of-suc-le-suc}
-use native.Mathlib.Numerals.{add-one}
+use native.Mathlib.Nat.{not-suc-le-zero}
 use native.Mathlib.Decide.{decLt}
 use native.Mathlib.Omega.{arith}
-use mathlib.Core.Path.{_≡_, ap, sym, subst, subst⁻¹, _∙_}
-use mathlib.Core.Logic.{_⊎_, inl, inr, ⊎-elim, by-cases}
+use mathlib.Core.Path.{_≡_, ap, sym, subst⁻¹, _∙_}
+use mathlib.Core.Logic.{_⊎_, inl, inr, by-cases}
 use mathlib.Core.List.{List, [], _∷_}
 use lib.ListN.{length, getD, replicate, length-replicate, getD-replicate}
 use lib.Dec.{lit<}
 use lib.Seq.{sets, length-sets, getD-append-add}
+use borrow.Author.Count.{below-more}
 use Rattle.rules.specs.Loops.{list}
 use Rattle.rules.specs.Pile.{Side, draw, tip, Pile}
 use Rattle.rules.specs.Layout.{earnedColumn, column}
@@ -36,10 +36,6 @@ run-padded l at n f v j fits zeros is j<8 =
     by-cases (decLt j n) (λ j<n. run-in l at n f j fits j<n ∙ is j j<n ∙ sym (padded-used n v j j<n))
     (λ j≥n. run-out l at n f (at + j) (inr (omega arith)) ∙ zeros (at + j) (omega arith) (omega arith) ∙ sym (padded-unused n v j (omega arith)))
 
--- what holds of each number below i, and of i
-up-to : (P : ℕ → Type 0) (i : ℕ) → ((k : ℕ) → k < i → P k) → P i → (k : ℕ) → k < i + 1 → P k
-up-to P i h own k l = ⊎-elim (λ e. subst⁻¹ P e own) (h k) (eq-or-lt-of-le (le-of-suc-le-suc (subst (λ (n : ℕ). k < n) (add-one i) l)))
-
 module _ (n : ℕ) (p : Pile) where
   -- a record with the pile's numbers
   pub record-is : {floor top : ℕ} {shares tallies : List ℕ} → floor ≡ p .floor → top ≡ p .top → shares ≡ recordOf n p .shares → tallies ≡ recordOf n p .tallies
@@ -47,8 +43,9 @@ module _ (n : ℕ) (p : Pile) where
   unfolding recordOf
   record-is floor top shares tallies = rw (floor, top, shares, tallies)
 
-  -- tallies: the rows of the first m desks are in the array, and the rest is 0
+  -- tallies: the rows of the first m of n desks are in the array, and the rest is 0
   pub record Rows (m : ℕ) (l : List ℕ) : Type 0 where
+    pub counted : m ≤ n
     pub long : length l ≡ tallyPlaces
     pub earned : (s : Side) (i : ℕ) → i < m → getD l (i * rowPlaces + earnedColumn s) 0 ≡ p .earned s i
     pub give : (s : Side) (i j : ℕ) → i < m → j < 8 → getD l (i * rowPlaces + column 8 s j) 0 ≡ padded n (p .give s i) j
@@ -57,6 +54,7 @@ module _ (n : ℕ) (p : Pile) where
   pub no-rows : Rows 0 (replicate tallyPlaces 0)
   no-rows =
       record {
+        counted = omega arith;
         long = length-replicate {A = ℕ} tallyPlaces 0;
         earned = λ s i l. absurd (not-suc-le-zero l);
         give = λ s i j l. absurd (not-suc-le-zero l);
@@ -96,9 +94,10 @@ module _ (n : ℕ) (p : Pile) where
         → Rows (i + 1) (sets (sets l (i * rowPlaces) (list (2 + n) f)) (i * rowPlaces + 10) (list n g))
     next-row {l} i f g i<n r tipped drawn draws tips =
         record {
+          counted = omega arith;
           long = length-sets half (i * rowPlaces + 10) (list n g) ∙ half-long;
-          earned = λ s. up-to _ i (λ k k<i. before k (earnedColumn s) k<i (column-low s) ∙ r .earned s k k<i) (own-earned s);
-          give = λ s k j k≤i j<8. up-to (λ k. getD all (k * rowPlaces + column 8 s j) 0 ≡ padded n (p .give s k) j) i
+          earned = λ s. below-more _ i (λ k k<i. before k (earnedColumn s) k<i (column-low s) ∙ r .earned s k k<i) (own-earned s);
+          give = λ s k j k≤i j<8. below-more (λ k. getD all (k * rowPlaces + column 8 s j) 0 ≡ padded n (p .give s k) j) i
               (λ k k<i. before k (column 8 s j) k<i (column-below 8 s j j<8) ∙ r .give s k j k<i j<8) (own-give s j j<8) k k≤i;
           rest = λ k m k<tallyPlaces. run-out half (i * rowPlaces + 10) n g k (inr (omega arith)) ∙ zeros k (omega arith) k<tallyPlaces;
         }
@@ -141,12 +140,12 @@ module _ (n : ℕ) (p : Pile) where
             ap (λ (k : ℕ). getD all k 0) (omega arith)
             ∙ run-padded half (i * rowPlaces + 10) n g (p .give tip i) j (omega (arith, half-long)) (λ k m k<. zeros k (omega arith) (omega arith)) tips j<8
 
-    pub all-rows : {l : List ℕ} → Rows n l → l ≡ recordOf n p .tallies
-    all-rows {l} r =
+    pub all-rows : {m : ℕ} {l : List ℕ} → Rows m l → n ≤ m → l ≡ recordOf n p .tallies
+    all-rows {l = l} r n≤m =
         tallies-are n p l (r .long)
-        (λ s i i<8. by-cases (decLt i n) (λ i<n. r .earned s i i<n ∙ sym (padded-used n (p .earned s) i i<n))
+        (λ s i i<8. by-cases (decLt i n) (λ i<n. r .earned s i (omega arith) ∙ sym (padded-used n (p .earned s) i i<n))
         (λ i≥n. r .rest (i * rowPlaces + earnedColumn s) (omega arith) (below s i i<8) ∙ sym (padded-unused n (p .earned s) i (omega arith))))
-        (λ s i j i<8 j<8. by-cases (decLt i n) (λ i<n. r .give s i j i<n j<8 ∙ sym (padded-used n (λ k. padded n (p .give s k) j) i i<n))
+        (λ s i j i<8 j<8. by-cases (decLt i n) (λ i<n. r .give s i j (omega arith) j<8 ∙ sym (padded-used n (λ k. padded n (p .give s k) j) i i<n))
         (λ i≥n. r .rest (i * rowPlaces + column 8 s j) (omega arith) (omega (arith, column-below 8 s j j<8))
         ∙ sym (padded-unused n (λ k. padded n (p .give s k) j) i (omega arith))))
       where

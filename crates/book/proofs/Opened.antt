@@ -2,63 +2,50 @@
 -- Assumes nothing.
 use Prim.Native.Nat.{ℕ, _+_, _*_, _≤_}
 use native.Mathlib.Omega.{arith}
-use mathlib.Core.Path.{_≡_, ap, sym, _∙_}
+use mathlib.Core.Path.{_≡_}
 use mathlib.Core.List.{List, [], _∷_, _++_}
 use lib.ListN.{length}
 use lib.Seq.{sets, length-sets}
 use Rattle.rules.specs.Loops.{flat}
 use Rattle.rules.specs.Refusals.{first}
 use Rattle.rules.specs.Numbers.{bytes, afterPut}
-use Rattle.rules.specs.Layout.{bodyLength, bodyAt, bodyBytes, entryBytes, bookBytes, entryAt, positionAt}
+use Rattle.rules.specs.Layout.{bodyAt, bodyBytes, entryBytes, bookBytes, entryAt, positionAt}
 use Rattle.rules.specs.Record.{Record, recordView, recordOf}
 use Rattle.rules.specs.Opening.{given, givenPile, opened}
 use Rattle.rules.proofs.Bytes.Numbers.{length-bytes}
-use Rattle.rules.proofs.Loops.Sets.{sets-append}
-use Rattle.rules.proofs.File.Body.{length-body, body-cong}
-use Rattle.rules.proofs.File.Written.{length-entry, length-contents}
+use Rattle.rules.proofs.File.Body.{body-cong}
+use Rattle.rules.proofs.File.Written.{length-contents}
 use Rattle.rules.proofs.Record.RecordOf.{record-agrees}
-use Rattle.book.proofs.Saved.{put-fits, sets-piece}
+use Rattle.book.proofs.Saved.{put-fits}
+use Rattle.rules.proofs.Loops.Sets.{sets-then}
 
 abbrev pub body : ℕ → List ℕ → ℕ → List ℕ
 body n l k = bodyBytes n (givenPile n l k)
+
+-- the record of a given pile makes its body
+pub record-body : (n : ℕ) (l : List ℕ) (k : ℕ) {r : Record} → n ≤ 8 → r ≡ recordOf n (givenPile n l k) → bodyBytes n (recordView r) ≡ body n l k
+record-body n l k n≤8 is = rw is (body-cong n _ _ (record-agrees n (givenPile n l k) n≤8))
 
 module _ (n p : ℕ) (l : List ℕ) where
   abbrev pub entry : ℕ → List ℕ
   entry = entryBytes n p (λ k. given n l k 0)
 
-  -- an entry is its number and its position, behind the entries before it
-  pub put-entry : (b : List ℕ) (k : ℕ) {x y : ℕ} {before between after : List ℕ} → 10 + k * 6 ≤ length b
-      → before ≡ sets b 4 (flat k entry) → x ≡ given n l k 0 → y ≡ bodyAt n p k
-      → between ≡ afterPut 2 before (entryAt k) x → after ≡ afterPut 4 between (positionAt k) y
-      → after ≡ sets b 4 (flat (k + 1) entry)
+  -- an entry is its number and its position
+  pub put-entry : (b : List ℕ) (k : ℕ) {x y : ℕ} {between after : List ℕ} → entryAt k + 6 ≤ length b → x ≡ given n l k 0 → y ≡ bodyAt n p k
+      → between ≡ afterPut 2 b (entryAt k) x → after ≡ afterPut 4 between (positionAt k) y
+      → after ≡ sets b (entryAt k) (entry k)
   unfolding entryBytes
-  put-entry b k fits entries is at first second =
-      let e : List ℕ = sets b 4 (flat k entry) in
+  put-entry b k fits is at first second =
       let v : List ℕ = bytes 2 (given n l k 0) in
-      let long : length e ≡ length b = length-sets b 4 (flat k entry) in
       rw (
         second,
         first,
-        entries,
         is,
         at,
-        put-fits 2 e (entryAt k) (given n l k 0) (omega (arith, long)),
-        put-fits 4 (sets e (entryAt k) v) (positionAt k) (bodyAt n p k) (omega (arith, long, length-sets e (entryAt k) v)),
+        put-fits 2 b (entryAt k) (given n l k 0) (omega arith),
+        put-fits 4 (sets b (entryAt k) v) (positionAt k) (bodyAt n p k) (omega (arith, length-sets b (entryAt k) v)),
       )
-      (ap (λ (j : ℕ). sets (sets e (entryAt k) v) j (bytes 4 (bodyAt n p k))) (omega (arith, length-bytes 2 (given n l k 0)))
-      ∙ sym (sets-append e (entryAt k) v (bytes 4 (bodyAt n p k)))
-      ∙ sets-piece b 4 6 k entry (length-entry n p _ (givenPile n l)))
-
-  -- the record of a given pile makes its body, behind the bodies before it
-  pub put-given : (b : List ℕ) (k : ℕ) {at : ℕ} {r : Record} {before after : List ℕ} → n ≤ 8
-      → before ≡ sets b (bodyAt n p 0) (flat k (body n l)) → at ≡ bodyAt n p k → r ≡ recordOf n (givenPile n l k)
-      → after ≡ sets before at (bodyBytes n (recordView r))
-      → after ≡ sets b (bodyAt n p 0) (flat (k + 1) (body n l))
-  unfolding bodyAt
-  put-given b k n≤8 bodies at is saved =
-      rw (saved, bodies, at, is, body-cong n _ _ (record-agrees n (givenPile n l k) n≤8))
-      (ap (λ (j : ℕ). sets (sets b (bodyAt n p 0) (flat k (body n l))) j (body n l k)) (omega arith)
-      ∙ sets-piece b (bodyAt n p 0) (bodyLength n) k (body n l) (λ j. length-body n (givenPile n l j)))
+      (sets-then b (entryAt k) v (positionAt k) (bytes 4 (bodyAt n p k)) (omega (arith, length-bytes 2 (given n l k 0))))
 
   -- head and contents, and then the bodies, are the opened book
   pub put-book : (b : List ℕ) {front after : List ℕ} → front ≡ sets b 0 ((1 ∷ n ∷ p ∷ 0 ∷ []) ++ flat p entry)
@@ -67,5 +54,4 @@ module _ (n p : ℕ) (l : List ℕ) where
   put-book b front bodies =
       let v : List ℕ = 1 ∷ n ∷ p ∷ 0 ∷ flat p entry in
       let long : length (flat p entry) ≡ p * 6 = length-contents n p (λ k. given n l k 0) (givenPile n l) in
-      rw (bodies, front)
-      (ap (λ (j : ℕ). sets (sets b 0 v) j (flat p (body n l))) (omega (arith, long)) ∙ sym (sets-append b 0 v (flat p (body n l))))
+      rw (bodies, front) (sets-then b 0 v (bodyAt n p 0) (flat p (body n l)) (omega (arith, long)))

@@ -1,37 +1,36 @@
 -- What the queries of a book reply, from the answer that found the pile and from the record at its place.
 -- Assumes nothing.
 use Prim.Native.Nat.{ℕ, _<_}
-use mathlib.Core.Path.{_≡_, ap, sym, subst⁻¹, _∙_}
+use mathlib.Core.Path.{_≡_, sym, subst⁻¹, _∙_}
 use mathlib.Core.Logic.{_≢_}
 use mathlib.Core.List.{List, []}
 use Rattle.rules.specs.Refusals.{refused, reply}
 use Rattle.rules.specs.Numbers.{part}
 use Rattle.rules.specs.Pile.{Side}
 use Rattle.rules.specs.Layout.{bodyLength, desks, piles, position, pileOf}
-use Rattle.rules.specs.Book.{bookAnswer, place, fetchAnswer, deskAnswer, bodyPart, bodyStart, tonnageReply, rightsReply}
+use Rattle.rules.specs.Book.{place, fetchAnswer, deskAnswer, bodyPart, bodyStart, tonnageReply, rightsReply}
 use Rattle.rules.specs.Record.{Record, zeroRecord, recordOf, recordTonnageReply, recordRightsReply, fetched}
-use Rattle.rules.proofs.Loops.Refusals.{when-accepted, when-refused}
+use Rattle.rules.proofs.Loops.Refusals.{when-accepted, when-refused, reply-refused}
 use Rattle.rules.proofs.File.Found.{found-readable, found-desk, found-place, desk-0-fetch}
 use Rattle.rules.proofs.File.Refused.{fetch-refused, body-refused}
 use Rattle.rules.proofs.Record.OfBody.{body-tonnage, body-rights}
+use Rattle.book.specs.Within.{HasPlace}
 
 module _ (i : ℕ) (b : List ℕ) (number : ℕ) {m : ℕ} (answer : m ≡ deskAnswer i b number) where
   -- the pile was not found
   module _ (d : m ≢ 0) where
-    refuses : deskAnswer i b number ≢ 0
-    refuses z = d (answer ∙ z)
-
     pub rights-refused : (s : Side) → refused m ≡ rightsReply s i b number
-    unfolding rightsReply reply
-    rights-refused s = ap refused answer ∙ sym (when-refused _ _ _ refuses)
+    unfolding rightsReply
+    rights-refused s = rw (← answer) (reply-refused m _ d)
 
   -- the pile was found, at place k
   module _ (z : m ≡ 0) {k : ℕ} (at : k ≡ place b number) where
     found : deskAnswer i b number ≡ 0
     found = sym answer ∙ z
 
-    pub place-is : (bookAnswer b ≡ 0) × (k < piles b)
-    place-is = (found-readable i b number found, subst⁻¹ (λ (k : ℕ). k < piles b) at (found-place i b number found))
+    pub has-place : HasPlace b k
+    has-place =
+        record { readable = found-readable i b number found; below = subst⁻¹ (λ (k : ℕ). k < piles b) at (found-place i b number found) }
 
     pub rights-found : (s : Side) {r : Record} → r ≡ recordOf (desks b) (pileOf b k) → recordRightsReply s i r ≡ rightsReply s i b number
     unfolding rightsReply reply
@@ -58,8 +57,8 @@ module _ (b : List ℕ) (number : ℕ) {m : ℕ} (answer : m ≡ deskAnswer 0 b 
     start-refused = sym (when-refused _ _ _ not-fetched)
 
     pub tonnage-refused : refused m ≡ tonnageReply b number
-    unfolding tonnageReply reply
-    tonnage-refused = ap refused fetch-is ∙ sym (when-refused _ _ _ not-fetched)
+    unfolding tonnageReply
+    tonnage-refused = rw (← fetch-is) (reply-refused m _ d)
 
   module _ (z : m ≡ 0) {k : ℕ} (at : k ≡ place b number) where
     fetchable : fetchAnswer b number ≡ 0
@@ -80,5 +79,6 @@ module _ (b : List ℕ) (number : ℕ) {m : ℕ} (answer : m ≡ deskAnswer 0 b 
     pub tonnage-found : {r : Record} → r ≡ recordOf (desks b) (pileOf b k) → recordTonnageReply r ≡ tonnageReply b number
     unfolding tonnageReply reply
     tonnage-found is =
-        rw (is, at) (let l = place-is 0 b number answer z at in body-tonnage b (place b number) (l .0) (subst⁻¹ (λ (j : ℕ). j < piles b) (sym at) (l .1)))
+        let e = sym answer ∙ z in
+        rw (is, at) (body-tonnage b (place b number) (found-readable 0 b number e) (found-place 0 b number e))
         ∙ sym (when-accepted _ _ _ fetchable)

@@ -1,11 +1,11 @@
--- What writing pieces one after the other leaves, and the runs of numbers that make up a row of a body.
+-- What writing a number leaves, and writing the runs of numbers that make up a row of a body and a body.
 -- Assumes nothing.
-use Prim.Native.Nat.{ℕ, zero, suc, _+_, _*_, _≤_, _<_}
-use native.Mathlib.Nat.{zero-add, suc-mul, mul-le-mul-right}
-use native.Mathlib.Numerals.{add-one}
+use Prim.Native.Nat.{ℕ, suc, _+_, _*_, _≤_}
+use native.Mathlib.Nat.{zero-add}
+use native.Mathlib.Numerals.{one-add}
 use native.Mathlib.Omega.{arith}
 use mathlib.Core.Path.{_≡_, ap, ap₂, sym, _∙_}
-use mathlib.Core.List.{List, [], _∷_, _++_, append-nil, append-assoc}
+use mathlib.Core.List.{List, [], _∷_, _++_}
 use lib.ListN.{length, getD, length-append}
 use lib.Seq.{sets, getD-append-add}
 use borrow.Author.Tests.{le-ltb}
@@ -14,9 +14,9 @@ use Rattle.rules.specs.Numbers.{bytes, encode, putAnswer, afterPut}
 use Rattle.rules.specs.Layout.{rowLength, bodyLength, rowOf, bodyRow, bodyBytes}
 use Rattle.rules.specs.Record.{Record, recordCell, recordView, rowPlaces}
 use Rattle.rules.proofs.Loops.Refusals.{not-met, when-accepted}
-use Rattle.rules.proofs.Loops.Pieces.{length-flat, flat-cong, length-list, list-add, list-cong}
+use Rattle.rules.proofs.Loops.Pieces.{flat-cong, flat-add, length-list, list-add, list-cong}
 use Rattle.rules.proofs.Bytes.Numbers.{encode-append, length-encode}
-use Rattle.rules.proofs.Loops.Sets.{sets-append}
+use Rattle.rules.proofs.Loops.Sets.{sets-append, sets-then}
 use Rattle.rules.proofs.File.Body.{length-body-row}
 
 -- a number that fits is written
@@ -27,14 +27,7 @@ put-fits w b at x l = when-accepted _ _ _ (not-met 8 (le-ltb _ _ l))
 -- the first of some pieces apart
 flat-first : (m : ℕ) (f : ℕ → List ℕ) → flat (suc m) f ≡ f 0 ++ flat m (λ k. f (suc k))
 unfolding flat
-flat-first zero f = sym (append-nil (f 0))
-flat-first (suc m) f = rw (flat-first m f, append-assoc)
-
--- one piece more, of pieces of one length
-pub sets-piece : (b : List ℕ) (at ℓ k : ℕ) (f : ℕ → List ℕ) → ((j : ℕ) → length (f j) ≡ ℓ)
-    → sets (sets b at (flat k f)) (at + k * ℓ) (f k) ≡ sets b at (flat (k + 1) f)
-unfolding flat
-sets-piece b at ℓ k f h = rw (add-one k, sets-append b at (flat k f) (f k), length-flat k ℓ f (λ j _. h j))
+flat-first m f = simp one-add at (flat-add 1 m f)
 
 -- a run: so many numbers of an array, from a place on
 abbrev pub run : List ℕ → ℕ → ℕ → List ℕ
@@ -46,33 +39,27 @@ length-run numbers from count = length-list count (λ k. getD numbers (from + k)
 -- numbers that are written in two goes
 sets-goes : (b : List ℕ) (at at′ : ℕ) (l l′ : List ℕ) → at′ ≡ at + length l * 4
     → sets (sets b at (encode l)) at′ (encode l′) ≡ sets b at (encode (l ++ l′))
-sets-goes b at at′ l l′ e = rw (encode-append l l′, sets-append b at (encode l) (encode l′), length-encode l, e)
+sets-goes b at at′ l l′ e = rw (encode-append l l′) (sets-then b at (encode l) at′ (encode l′) (omega (arith, length-encode l)))
 
--- the rows of a body: the opening and n more, of which row i is one
+-- the rows of a body: the opening and n more
 pub body-room : (n : ℕ) → 8 * (n + 1) + n * rowLength n ≡ bodyLength n
 unfolding rowLength bodyLength
 body-room n = omega arith
-
-pub row-room : (n i : ℕ) → i < n → i * (8 * (n + 1)) + 8 * (n + 1) ≤ n * rowLength n
-unfolding rowLength
-row-room n i l = omega (arith, mul-le-mul-right (8 * (n + 1)) l, suc-mul i (8 * (n + 1)))
 
 -- the two runs of row i of the tallies, as far as n desks go
 abbrev pub tallyRow : ℕ → List ℕ → ℕ → List ℕ
 tallyRow n tallies i = run tallies (i * rowPlaces) (2 + n) ++ run tallies (i * rowPlaces + 10) n
 
-length-tally-row : (n : ℕ) (tallies : List ℕ) (i : ℕ) → length (encode (tallyRow n tallies i)) ≡ 8 * (n + 1)
+pub length-tally-row : (n : ℕ) (tallies : List ℕ) (i : ℕ) → length (encode (tallyRow n tallies i)) ≡ 8 * (n + 1)
 length-tally-row n tallies i = length-encode (tallyRow n tallies i) ∙ simp (length-append, length-list) (omega arith)
 
--- what they leave, behind the rows before it
-pub put-tallies : (b : List ℕ) (at n : ℕ) (tallies : List ℕ) (i : ℕ) {before between after : List ℕ}
-    → before ≡ sets b at (flat i (λ k. encode (tallyRow n tallies k)))
-    → between ≡ sets before (at + i * (8 * (n + 1))) (encode (run tallies (i * rowPlaces) (2 + n)))
-    → after ≡ sets between (at + i * (8 * (n + 1)) + 8 + 4 * n) (encode (run tallies (i * rowPlaces + 10) n))
-    → after ≡ sets b at (flat (i + 1) (λ k. encode (tallyRow n tallies k)))
-put-tallies b at n tallies i {before} rows first second =
-    rw (second, first) (sets-goes before _ _ _ _ (omega (arith, length-run tallies (i * rowPlaces) (2 + n)))
-    ∙ rw rows (sets-piece b at (8 * (n + 1)) i (λ k. encode (tallyRow n tallies k)) (length-tally-row n tallies)))
+-- what they leave
+pub put-tallies : (before : List ℕ) (to n : ℕ) (tallies : List ℕ) (i : ℕ) {between after : List ℕ}
+    → between ≡ sets before to (encode (run tallies (i * rowPlaces) (2 + n)))
+    → after ≡ sets between (to + 8 + 4 * n) (encode (run tallies (i * rowPlaces + 10) n))
+    → after ≡ sets before to (encode (tallyRow n tallies i))
+put-tallies before to n tallies i first second =
+    rw (second, first) (sets-goes before _ _ _ _ (omega (arith, length-run tallies (i * rowPlaces) (2 + n))))
 
 -- the rows of the record that the runs make up
 row-of-runs : (n : ℕ) (r : Record) (i : ℕ) → tallyRow n (r .tallies) i ≡ bodyRow n (recordView r) (suc i)

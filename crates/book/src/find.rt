@@ -5,11 +5,11 @@ use crate::load::load;
 use crate::readable::book_answer;
 use pile::Pile;
 ghost use mathlib.Core.Path.{_≡_};
-ghost use Prim.Native.Nat.{_<_};
-ghost use Rattle.rules.specs.Layout.{desks, piles, pileOf};
-ghost use Rattle.rules.specs.Book.{bookAnswer, deskAnswer, place};
+ghost use Rattle.rules.specs.Layout.{desks, pileOf};
+ghost use Rattle.rules.specs.Book.{deskAnswer, place};
 ghost use Rattle.rules.specs.Record.{recordOf};
 ghost use Rattle.pile.specs.View.{asRecord};
+ghost use Rattle.book.specs.Within.{HasPlace};
 
 // A refusal's number or 0, and where it is 0 the pile's place in the contents.
 pub(crate) struct Found {
@@ -51,7 +51,7 @@ pub(crate) fn find(book: &[u8], desk: u8, number: u16) -> Found
 
 // The record of the pile at a place.
 pub(crate) fn load_body(book: &[u8], k: usize) -> Pile
-    requires { ⌜ (bookAnswer (now book) ≡ 0) × (k < piles (now book)) ⌝ }
+    requires { ⌜ HasPlace (now book) k ⌝ }
     ensures { λ r. ⌜ asRecord r ≡ recordOf (desks (now (book .entry))) (pileOf (now (book .entry)) k) ⌝ }
 {
     let n = book[1];

@@ -10,20 +10,16 @@ use crate::save::save;
 use number::put2;
 use number::put4;
 ghost use mathlib.Core.Path.{_≡_};
-ghost use mathlib.Core.Bool.{true, not};
 ghost use mathlib.Core.List.{[], _∷_, _++_};
-ghost use Prim.Native.Nat.{_+_, _*_, _≤_};
-ghost use lib.ListN.{length};
 ghost use lib.Seq.{sets};
 ghost use Rattle.rules.specs.Loops.{flat};
-ghost use Rattle.rules.specs.Refusals.{_when_, first};
-ghost use Rattle.rules.specs.Pile.{openingLawful};
-ghost use Rattle.rules.specs.Layout.{bodyAt, bookLength, bodyBytes, entryBytes, frontLength};
-ghost use Rattle.rules.specs.Opening.{rising, given, givenPile};
+ghost use Rattle.rules.specs.Layout.{bodyAt, bodyBytes, entryBytes};
+ghost use Rattle.rules.specs.Opening.{given, givenPile};
+ghost use Rattle.book.specs.Listed.{FrontReady, BodiesReady};
 
 // The contents of p piles, from position 4 on.
 pub(crate) fn put_contents(out: &mut [u8], n: usize, p: usize, numbers: &[u32])
-    requires { ⌜ (n ≤ 8) × (p ≤ 32) × (p * (3 + 2 * n) ≤ length (now numbers)) × (frontLength p ≤ length (now out)) × (rising p (λ k. given n (now numbers) k 0) ≡ true) ⌝ }
+    requires { ⌜ FrontReady n p (now numbers) (now out) ⌝ }
     ensures { λ _. ⌜ now (out .exit) ≡ sets (now (out .entry)) 4 (flat p (entryBytes n p (λ k. given n (now (numbers .entry)) k 0))) ⌝ }
 {
     let mut k = 0;
@@ -36,7 +32,7 @@ pub(crate) fn put_contents(out: &mut [u8], n: usize, p: usize, numbers: &[u32])
 
 // The head, and then the contents.
 pub(crate) fn put_front(out: &mut [u8], n: u8, p: u8, numbers: &[u32])
-    requires { ⌜ (n ≤ 8) × (p ≤ 32) × (p * (3 + 2 * n) ≤ length (now numbers)) × (frontLength p ≤ length (now out)) × (rising p (λ k. given n (now numbers) k 0) ≡ true) ⌝ }
+    requires { ⌜ FrontReady n p (now numbers) (now out) ⌝ }
     ensures { λ _. ⌜ now (out .exit) ≡ sets (now (out .entry)) 0 ((1 ∷ n ∷ p ∷ 0 ∷ []) ++ flat p (entryBytes n p (λ k. given n (now (numbers .entry)) k 0))) ⌝ }
 {
     out[0] = VERSION;
@@ -48,7 +44,7 @@ pub(crate) fn put_front(out: &mut [u8], n: u8, p: u8, numbers: &[u32])
 
 // The bodies of p piles, one after the other, where their openings are lawful.
 pub(crate) fn put_bodies(out: &mut [u8], n: u8, p: usize, numbers: &[u32])
-    requires { ⌜ (1 ≤ n) × (n ≤ 8) × (p ≤ 32) × (p * (3 + 2 * n) ≤ length (now numbers)) × (bookLength n p ≤ length (now out)) × (first p (λ k. 5 when not (openingLawful n (givenPile n (now numbers) k))) ≡ 0) ⌝ }
+    requires { ⌜ BodiesReady n p (now numbers) (now out) ⌝ }
     ensures { λ _. ⌜ now (out .exit) ≡ sets (now (out .entry)) (bodyAt n p 0) (flat p (λ k. bodyBytes n (givenPile n (now (numbers .entry)) k))) ⌝ }
 {
     let size = body_length(n as usize);

@@ -4,8 +4,8 @@ use pile::Pile;
 use pile::SHARES;
 ghost use mathlib.Core.Path.{_≡_};
 ghost use mathlib.Core.Bool.{not};
-ghost use Prim.Native.Nat.{_+_, _*_, _≤_, _<_};
-ghost use lib.ListN.{length, getD};
+ghost use Prim.Native.Nat.{_+_};
+ghost use lib.ListN.{getD};
 ghost use lib.Seq.{sets};
 ghost use Rattle.rules.specs.Loops.{list};
 ghost use Rattle.rules.specs.Refusals.{_when_};
@@ -13,10 +13,12 @@ ghost use Rattle.rules.specs.Pile.{openingLawful};
 ghost use Rattle.rules.specs.Opening.{givenPile};
 ghost use Rattle.rules.specs.Record.{recordOf};
 ghost use Rattle.pile.specs.View.{asRecord};
+ghost use Rattle.book.specs.Runs.{RunFits};
+ghost use Rattle.book.specs.Listed.{Listed, Openings};
 
 // Copies count numbers, from a place on, to the places of an array from one on.
 pub(crate) fn copy_run(out: &mut [u32], to: usize, numbers: &[u32], from: usize, count: usize)
-    requires { ⌜ (to + count ≤ length (now out)) × (from + count ≤ length (now numbers)) ⌝ }
+    requires { ⌜ RunFits to count (now out) from count (now numbers) ⌝ }
     ensures { λ _. ⌜ now (out .exit) ≡ sets (now (out .entry)) to (list count (λ k. getD (now (numbers .entry)) (from + k) 0)) ⌝ }
 {
     let mut k = 0;
@@ -28,7 +30,7 @@ pub(crate) fn copy_run(out: &mut [u32], to: usize, numbers: &[u32], from: usize,
 
 // The shares of pile k, as a record has them.
 pub(crate) fn given_shares(numbers: &[u32], n: usize, k: usize) -> [u32; SHARES]
-    requires { ⌜ (n ≤ 8) × (k < 32) × ((k + 1) * (3 + 2 * n) ≤ length (now numbers)) ⌝ }
+    requires { ⌜ Listed n (k + 1) (now numbers) ⌝ }
     ensures { λ r. ⌜ r ≡ recordOf n (givenPile n (now (numbers .entry)) k) .shares ⌝ }
 {
     let from = k * (3 + 2 * n) + 3;
@@ -40,7 +42,7 @@ pub(crate) fn given_shares(numbers: &[u32], n: usize, k: usize) -> [u32; SHARES]
 
 // Pile k as a fresh record, or 5.
 pub(crate) fn given_pile(numbers: &[u32], n: u8, k: usize) -> Outcome
-    requires { ⌜ (1 ≤ n) × (n ≤ 8) × (k < 32) × ((k + 1) * (3 + 2 * n) ≤ length (now numbers)) ⌝ }
+    requires { ⌜ Openings n (k + 1) (now numbers) ⌝ }
     ensures answer { λ r. ⌜ r .answer ≡ 5 when not (openingLawful n (givenPile n (now (numbers .entry)) k)) ⌝ }
     ensures pile { λ r. ⌜ (r .answer ≡ 0 → asRecord (r .pile) ≡ recordOf n (givenPile n (now (numbers .entry)) k)) ⌝ }
 {

@@ -3,22 +3,20 @@ use crate::layout::ENTRY;
 use crate::layout::HEAD;
 use crate::layout::POSITION;
 use crate::layout::body_at;
+use crate::layout::sizes_in_range;
 use number::get2;
 use number::get4;
-use pile::Pile;
 ghost use mathlib.Core.Path.{_≡_};
-ghost use Prim.Native.Nat.{_+_, _*_, _≤_};
+ghost use Prim.Native.Nat.{_≤_};
 ghost use lib.ListN.{length};
 ghost use lib.Dec.{eqb};
 ghost use Rattle.rules.specs.Loops.{_and_, every, index};
-ghost use Rattle.rules.specs.Layout.{bodyAt, pileNumber, position, frontLength};
+ghost use Rattle.rules.specs.Layout.{bodyAt, pileNumber, position};
 ghost use Rattle.rules.specs.Opening.{rising};
 ghost use Rattle.rules.specs.Book.{headSound};
+ghost use Rattle.book.specs.Within.{FrontWithin};
 
-// A book's version, and the most piles of one.
 pub(crate) const VERSION: u8 = 1;
-
-pub(crate) const PILES: u8 = 32;
 
 // Version 1, 1 to 8 desks, 1 to 32 piles, 0.
 pub(crate) fn head_sound(book: &[u8]) -> bool
@@ -28,16 +26,7 @@ pub(crate) fn head_sound(book: &[u8]) -> bool
     if book[0] != VERSION {
         return false;
     }
-    if book[1] < 1 {
-        return false;
-    }
-    if Pile::DESKS < book[1] {
-        return false;
-    }
-    if book[2] < 1 {
-        return false;
-    }
-    if PILES < book[2] {
+    if !sizes_in_range(book[1], book[2]) {
         return false;
     }
     book[3] == 0
@@ -45,7 +34,7 @@ pub(crate) fn head_sound(book: &[u8]) -> bool
 
 // Pile numbers rise from above 0, and each position is where its body starts.
 pub(crate) fn contents_sound(book: &[u8], n: usize, p: usize) -> bool
-    requires { ⌜ (n ≤ 8) × (p ≤ 32) × (frontLength p ≤ length (now book)) ⌝ }
+    requires { ⌜ (n ≤ 8) × FrontWithin p (now book) ⌝ }
     ensures { λ r. ⌜ r ≡ rising p (pileNumber (now (book .entry))) and every p (λ k. eqb (position (now (book .entry)) k) (bodyAt n p k)) ⌝ }
 {
     let mut last: u16 = 0;
@@ -66,7 +55,7 @@ pub(crate) fn contents_sound(book: &[u8], n: usize, p: usize) -> bool
 
 // Where a pile number stands in the contents; p where it is absent.
 pub(crate) fn place_of(book: &[u8], p: usize, number: u16) -> usize
-    requires { ⌜ (p ≤ 32) × (frontLength p ≤ length (now book)) ⌝ }
+    requires { ⌜ FrontWithin p (now book) ⌝ }
     ensures { λ r. ⌜ r ≡ index p (λ k. eqb (pileNumber (now (book .entry)) k) number) ⌝ }
 {
     let mut k = 0;

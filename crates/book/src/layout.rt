@@ -1,7 +1,8 @@
-// Where the parts of a book stand.
+// How large a book may be, and where its parts stand.
+use pile::Pile;
 ghost use mathlib.Core.Path.{_≡_};
 ghost use Prim.Native.Nat.{_≤_};
-ghost use Rattle.rules.specs.Layout.{frontLength, bodyLength, bodyAt};
+ghost use Rattle.rules.specs.Layout.{sizesInRange, frontLength, bodyLength, bodyAt};
 
 // The head, and the contents' entries behind it: a pile number, and a position 2 bytes on.
 pub(crate) const HEAD: usize = 4;
@@ -9,6 +10,25 @@ pub(crate) const HEAD: usize = 4;
 pub(crate) const ENTRY: usize = 6;
 
 pub(crate) const POSITION: usize = HEAD + 2;
+
+// The most piles of a book.
+pub(crate) const PILES: u8 = 32;
+
+// 1 to 8 desks, 1 to 32 piles.
+pub(crate) fn sizes_in_range(n: u8, p: u8) -> bool
+    ensures { λ r. ⌜ r ≡ sizesInRange n p ⌝ }
+{
+    if n < 1 {
+        return false;
+    }
+    if Pile::DESKS < n {
+        return false;
+    }
+    if p < 1 {
+        return false;
+    }
+    p <= PILES
+}
 
 // All before the bodies of a book of p piles.
 pub(crate) fn front_length(p: usize) -> usize

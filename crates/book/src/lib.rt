@@ -15,11 +15,11 @@ use find::find;
 use find::load_body;
 use front::put_bodies;
 use front::put_front;
-use head::PILES;
 use layout::ENTRY;
 use layout::POSITION;
 use layout::body_at;
 use layout::body_length;
+use layout::sizes_in_range;
 use number::get4;
 use opening::opening_answer;
 use pile::Amount;
@@ -32,9 +32,10 @@ use save::save;
 ghost use mathlib.Core.Path.{_≡_};
 ghost use lib.ListN.{length};
 ghost use denote.Ref.{ptr};
+ghost use Rattle.rules.specs.Numbers.{partPlace};
 ghost use Rattle.rules.specs.Pile.{draw, tip};
 ghost use Rattle.rules.specs.Opening.{bufferLength, openingAnswer, afterOpening};
-ghost use Rattle.rules.specs.Book.{bookAnswer, fetchAnswer, bodyPart, bodyStart, partPlace, tonnageReply, rightsReply};
+ghost use Rattle.rules.specs.Book.{bookAnswer, fetchAnswer, bodyPart, bodyStart, tonnageReply, rightsReply};
 ghost use Rattle.rules.specs.Record.{fetched, storeAnswer, afterStore};
 ghost use Rattle.pile.specs.View.{asRecord};
 ghost use Rattle.pile.specs.Replies.{asReply};
@@ -43,16 +44,7 @@ ghost use Rattle.pile.specs.Replies.{asReply};
 pub fn length(n: u8, p: u8) -> usize
     ensures { λ r. ⌜ r ≡ bufferLength n p ⌝ }
 {
-    if n < 1 {
-        return 0;
-    }
-    if Pile::DESKS < n {
-        return 0;
-    }
-    if p < 1 {
-        return 0;
-    }
-    if PILES < p {
+    if !sizes_in_range(n, p) {
         return 0;
     }
     body_at(n as usize, p as usize, p as usize)

@@ -6,18 +6,19 @@ use pile::SHARES;
 use pile::TALLIES;
 use pile::TIPS;
 ghost use mathlib.Core.Path.{_≡_};
-ghost use Prim.Native.Nat.{_+_, _*_, _≤_};
-ghost use lib.ListN.{length};
+ghost use Prim.Native.Nat.{_+_, _*_};
 ghost use lib.Seq.{sets};
 ghost use Rattle.rules.specs.Loops.{list};
 ghost use Rattle.rules.specs.Numbers.{number};
-ghost use Rattle.rules.specs.Layout.{bodyView, bodyLength};
+ghost use Rattle.rules.specs.Layout.{bodyView};
 ghost use Rattle.rules.specs.Record.{recordOf};
 ghost use Rattle.pile.specs.View.{asRecord};
+ghost use Rattle.book.specs.Runs.{RunFits};
+ghost use Rattle.book.specs.Within.{BodyWithin};
 
 // Reads count numbers of the book from a position on into the places of an array from one on.
 pub(crate) fn fill(out: &mut [u32], to: usize, book: &[u8], from: usize, count: usize)
-    requires { ⌜ (to + count ≤ length (now out)) × (from + count * 4 ≤ length (now book)) ⌝ }
+    requires { ⌜ RunFits to count (now out) from (count * 4) (now book) ⌝ }
     ensures { λ _. ⌜ now (out .exit) ≡ sets (now (out .entry)) to (list count (λ k. number 4 (now (book .entry)) (from + k * 4))) ⌝ }
 {
     let mut k = 0;
@@ -29,7 +30,7 @@ pub(crate) fn fill(out: &mut [u32], to: usize, book: &[u8], from: usize, count: 
 
 // The shares of a body: draw shares at 0, tip shares at 8.
 pub(crate) fn load_shares(book: &[u8], n: usize, at: usize) -> [u32; SHARES]
-    requires { ⌜ (n ≤ 8) × (at + bodyLength n ≤ length (now book)) ⌝ }
+    requires { ⌜ BodyWithin n at (now book) ⌝ }
     ensures { λ r. ⌜ r ≡ recordOf n (bodyView n (now (book .entry)) at) .shares ⌝ }
 {
     let mut shares = [0u32; SHARES];
@@ -40,7 +41,7 @@ pub(crate) fn load_shares(book: &[u8], n: usize, at: usize) -> [u32; SHARES]
 
 // The tallies of a body, a row of 18 places for each desk: tipped, drawn and the draw gives stand side by side in the body too.
 pub(crate) fn load_tallies(book: &[u8], n: usize, at: usize) -> [u32; TALLIES]
-    requires { ⌜ (n ≤ 8) × (at + bodyLength n ≤ length (now book)) ⌝ }
+    requires { ⌜ BodyWithin n at (now book) ⌝ }
     ensures { λ r. ⌜ r ≡ recordOf n (bodyView n (now (book .entry)) at) .tallies ⌝ }
 {
     let mut tallies = [0u32; TALLIES];
@@ -56,7 +57,7 @@ pub(crate) fn load_tallies(book: &[u8], n: usize, at: usize) -> [u32; TALLIES]
 }
 
 pub(crate) fn load(book: &[u8], n: u8, at: usize) -> Pile
-    requires { ⌜ (n ≤ 8) × (at + bodyLength n ≤ length (now book)) ⌝ }
+    requires { ⌜ BodyWithin n at (now book) ⌝ }
     ensures { λ r. ⌜ asRecord r ≡ recordOf n (bodyView n (now (book .entry)) at) ⌝ }
 {
     let shares = load_shares(book, n as usize, at);

@@ -1,22 +1,20 @@
 // The first refusal of an opening.
 use crate::given::given_pile;
-use crate::head::PILES;
 use crate::layout::body_at;
-use pile::Pile;
+use crate::layout::sizes_in_range;
 ghost use mathlib.Core.Path.{_≡_};
 ghost use mathlib.Core.Bool.{not};
-ghost use Prim.Native.Nat.{_+_, _*_, _≤_};
-ghost use lib.ListN.{length};
 ghost use Rattle.rules.specs.Refusals.{_when_, first};
 ghost use Rattle.rules.specs.Pile.{openingLawful};
 ghost use Rattle.rules.specs.Opening.{rising, given, givenPile, openingAnswer};
+ghost use Rattle.book.specs.Listed.{Listed, Openings};
 
 // The highest pile number.
 const LAST_NUMBER: u32 = 65535;
 
 // Do the list's pile numbers rise from above 0, none above the highest?
 pub(crate) fn numbers_rise(numbers: &[u32], n: usize, p: usize) -> bool
-    requires { ⌜ (n ≤ 8) × (p ≤ 32) × (p * (3 + 2 * n) ≤ length (now numbers)) ⌝ }
+    requires { ⌜ Listed n p (now numbers) ⌝ }
     ensures { λ r. ⌜ r ≡ rising p (λ k. given n (now (numbers .entry)) k 0) ⌝ }
 {
     let mut last: u32 = 0;
@@ -37,7 +35,7 @@ pub(crate) fn numbers_rise(numbers: &[u32], n: usize, p: usize) -> bool
 
 // 5 where the opening of a pile is unlawful.
 pub(crate) fn openings_answer(numbers: &[u32], n: u8, p: usize) -> u8
-    requires { ⌜ (1 ≤ n) × (n ≤ 8) × (p ≤ 32) × (p * (3 + 2 * n) ≤ length (now numbers)) ⌝ }
+    requires { ⌜ Openings n p (now numbers) ⌝ }
     ensures { λ r. ⌜ r ≡ first p (λ k. 5 when not (openingLawful n (givenPile n (now (numbers .entry)) k))) ⌝ }
 {
     let mut k = 0;
@@ -56,16 +54,7 @@ pub(crate) fn openings_answer(numbers: &[u32], n: u8, p: usize) -> u8
 pub(crate) fn opening_answer(n: u8, p: u8, numbers: &[u32], room: usize) -> u8
     ensures { λ r. ⌜ r ≡ openingAnswer n p (now (numbers .entry)) room ⌝ }
 {
-    if n < 1 {
-        return 2;
-    }
-    if Pile::DESKS < n {
-        return 2;
-    }
-    if p < 1 {
-        return 2;
-    }
-    if PILES < p {
+    if !sizes_in_range(n, p) {
         return 2;
     }
     let desks = n as usize;

@@ -5,16 +5,15 @@ use crate::layout::body_at;
 use crate::layout::body_length;
 use crate::load::load;
 ghost use mathlib.Core.Path.{_≡_};
-ghost use Prim.Native.Nat.{_≤_};
-ghost use lib.ListN.{length};
 ghost use Rattle.rules.specs.Refusals.{first};
 ghost use Rattle.rules.specs.Pile.{pileAnswer};
-ghost use Rattle.rules.specs.Layout.{bodyView, bodyAt, bookLength};
+ghost use Rattle.rules.specs.Layout.{bodyView, bodyAt};
 ghost use Rattle.rules.specs.Book.{bookAnswer};
+ghost use Rattle.book.specs.Within.{BookSized};
 
 // The first refusal of a body, in file order: each is loaded, and the record's own check is asked.
 pub(crate) fn bodies_answer(book: &[u8], n: u8, p: usize) -> u8
-    requires { ⌜ (1 ≤ n) × (n ≤ 8) × (p ≤ 32) × (length (now book) ≡ bookLength n p) ⌝ }
+    requires { ⌜ BookSized n p (now book) ⌝ }
     ensures { λ r. ⌜ r ≡ first p (λ k. pileAnswer n (bodyView n (now (book .entry)) (bodyAt n p k))) ⌝ }
 {
     let size = body_length(n as usize);

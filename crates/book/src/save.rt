@@ -4,19 +4,21 @@ use pile::Pile;
 use pile::ROW;
 use pile::TIPS;
 ghost use mathlib.Core.Path.{_≡_};
-ghost use Prim.Native.Nat.{_+_, _*_, _≤_};
+ghost use Prim.Native.Nat.{_+_, _*_};
 ghost use mathlib.Core.List.{_++_};
-ghost use lib.ListN.{length, getD};
+ghost use lib.ListN.{getD};
 ghost use lib.Seq.{sets};
 ghost use Rattle.rules.specs.Loops.{flat, list};
 ghost use Rattle.rules.specs.Numbers.{encode};
-ghost use Rattle.rules.specs.Layout.{rowLength, bodyLength, bodyBytes};
-ghost use Rattle.rules.specs.Record.{recordView, rowPlaces, tallyPlaces};
+ghost use Rattle.rules.specs.Layout.{bodyBytes};
+ghost use Rattle.rules.specs.Record.{recordView, rowPlaces};
 ghost use Rattle.pile.specs.View.{asRecord};
+ghost use Rattle.book.specs.Runs.{RunFits};
+ghost use Rattle.book.specs.Within.{RowsWithin, BodyWithin};
 
 // Writes count numbers of an array, from a place on, into the book from a position on.
 pub(crate) fn put_run(book: &mut [u8], at: usize, numbers: &[u32], from: usize, count: usize)
-    requires { ⌜ (at + count * 4 ≤ length (now book)) × (from + count ≤ length (now numbers)) ⌝ }
+    requires { ⌜ RunFits at (count * 4) (now book) from count (now numbers) ⌝ }
     ensures { λ _. ⌜ now (book .exit) ≡ sets (now (book .entry)) at (encode (list count (λ k. getD (now (numbers .entry)) (from + k) 0))) ⌝ }
 {
     let mut k = 0;
@@ -28,7 +30,7 @@ pub(crate) fn put_run(book: &mut [u8], at: usize, numbers: &[u32], from: usize, 
 
 // Writes the rows of n desks, out of 8 rows of tallies, at a position.
 fn save_rows(book: &mut [u8], n: usize, at: usize, tallies: &[u32])
-    requires { ⌜ (n ≤ 8) × (at + n * rowLength n ≤ length (now book)) × (length (now tallies) ≡ tallyPlaces) ⌝ }
+    requires { ⌜ RowsWithin n at (now book) (now tallies) ⌝ }
     ensures { λ _. ⌜ now (book .exit) ≡ sets (now (book .entry)) at (flat n (λ i. encode
         (list (2 + n) (λ k. getD (now (tallies .entry)) (i * rowPlaces + k) 0) ++ list n (λ k. getD (now (tallies .entry)) (i * rowPlaces + 10 + k) 0)))) ⌝ }
 {
@@ -44,7 +46,7 @@ fn save_rows(book: &mut [u8], n: usize, at: usize, tallies: &[u32])
 
 // Writes the body of a pile of n desks at a position.
 pub(crate) fn save(book: &mut [u8], n: usize, at: usize, pile: Pile)
-    requires { ⌜ (n ≤ 8) × (at + bodyLength n ≤ length (now book)) ⌝ }
+    requires { ⌜ BodyWithin n at (now book) ⌝ }
     ensures { λ _. ⌜ now (book .exit) ≡ sets (now (book .entry)) at (bodyBytes n (recordView (asRecord pile))) ⌝ }
 {
     let opening = [pile.floor, pile.top];

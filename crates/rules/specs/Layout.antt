@@ -1,6 +1,6 @@
 -- "Bytes" of document 01: where each number of a file stands, and a file written from its parts.
 -- Assumes nothing.
-use Prim.Native.Nat.{ℕ, zero, suc, _+_, _*_}
+use Prim.Native.Nat.{ℕ, zero, suc, _+_, _*_, _≤_}
 use mathlib.Core.Bool.{Bool}
 use mathlib.Core.List.{List, [], _∷_, _++_}
 use lib.ListN.{getD}
@@ -21,6 +21,13 @@ pileNumberLimit = 65535
 
 unfoldable pub sizesInRange : ℕ → ℕ → Bool
 sizesInRange n p = between 1 deskLimit n and between 1 pileLimit p
+
+-- and as plain facts
+pub record Sizes (n p : ℕ) : Type 0 where
+  pub desks-least : 1 ≤ n
+  pub desks-most : n ≤ deskLimit
+  pub piles-least : 1 ≤ p
+  pub piles-most : p ≤ pileLimit
 
 -- A body is n + 1 rows of 2(n + 1) numbers: row 0 is the opening, row i + 1 belongs to desk i. A record's rows have the columns of 8 desks.
 abbrev pub columns : ℕ → ℕ

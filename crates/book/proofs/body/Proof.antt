@@ -1,16 +1,16 @@
 -- `body` hands out the part of the book that starts at the position that its contents has.
 -- Assumes nothing.
-use Prim.Native.Nat.{ℕ, _+_, _-_, _≤_, _<_}
+use Prim.Native.Nat.{ℕ, _+_, _-_, _≤_}
 use native.Mathlib.Omega.{arith}
 use mathlib.Core.Path.{_≡_, ap, _∙_}
 use lib.ListN.{length}
-use Rattle.rules.specs.Numbers.{part}
+use Rattle.rules.specs.Numbers.{part, partPlace}
 use Rattle.rules.specs.Layout.{desks, piles, position}
-use Rattle.rules.specs.Book.{bookAnswer, partPlace}
 use Rattle.rules.proofs.File.Readable.{BookFacts, book-facts}
 use borrow.Author.Needs.{needs}
+use Rattle.book.specs.Within.{HasPlace}
 use Rattle.book.proofs.Lengths.{body-within}
-use Rattle.book.proofs.Replies.{place-is, part-refused, start-refused, part-found, start-found}
+use Rattle.book.proofs.Replies.{has-place, part-refused, start-refused, part-found, start-found}
 use Rattle.book.proofs.body.Statement.{statement}
 use Rattle.book.proofs.body.Tie as tie
 
@@ -21,11 +21,11 @@ start c = c .before .before .before
 abbrev k : tie.Else1 → ℕ
 k c = c .before .find .result .place
 
-placed : (c : tie.Else1) → (bookAnswer (start c .args .book .now) ≡ 0) × (k c < piles (start c .args .book .now))
-placed c = let f = c .before .find .ensures in place-is 0 _ _ (f .0) (c .if1 .left) (f .1 (c .if1 .left))
+placed : (c : tie.Else1) → HasPlace (start c .args .book .now) (k c)
+placed c = let f = c .before .find .ensures in has-place 0 _ _ (f .0) (c .if1 .left) (f .1 (c .if1 .left))
 
 abbrev facts : (c : tie.Else1) → BookFacts (start c .args .book .now)
-facts c = book-facts _ (placed c .0)
+facts c = book-facts _ (placed c .readable)
 
 -- the body that is handed out lies in the book
 starts : (c : tie.After-get4) → c .get4 .result ≡ position (start (c .before) .args .book .now) (k (c .before))
@@ -38,7 +38,7 @@ within c =
     let one = c .before .before .before in
     let b = start one .args .book .now in
     let f = facts one in
-    omega (arith, starts (c .before .before), f .placed (k one) (placed one .1), c .body-length .ensures, f .sized, body-within (desks b) (piles b) (k one) (placed one .1))
+    omega (arith, starts (c .before .before), f .placed (k one) (placed one .below), c .body-length .ensures, f .sized, body-within (desks b) (piles b) (k one) (placed one .below))
 
 find-requires : tie.Need-find-requires
 find-requires c κs = search needs
@@ -59,10 +59,10 @@ returns c =
     (part-refused _ _ (f .0) d, ap (partPlace (c .before .before .before .before .args .book .ptr)) (start-refused _ _ (f .0) d))
 
 mul-get4 : tie.Need-mul-get4
-mul-get4 c = search (needs, placed c .1, facts c .piles-most)
+mul-get4 c = search (needs, placed c .below, facts c .sizes .piles-most)
 
 add-get4 : tie.Need-add-get4
-add-get4 c = search (needs, placed c .1, facts c .piles-most)
+add-get4 c = search (needs, placed c .below, facts c .sizes .piles-most)
 
 get4-requires : tie.Need-get4-requires
 get4-requires c κs = search needs
@@ -74,10 +74,10 @@ shared-slice-read-body-length : tie.Need-shared-slice-read-body-length
 shared-slice-read-body-length c = search (needs, facts (c .before .before) .long)
 
 cast-body-length : tie.Need-cast-body-length
-cast-body-length c = search (needs, facts (c .before .before) .desks-most)
+cast-body-length c = search (needs, facts (c .before .before) .sizes .desks-most)
 
 body-length-requires : tie.Need-body-length-requires
-body-length-requires c κs = facts (c .before .before) .desks-most
+body-length-requires c κs = facts (c .before .before) .sizes .desks-most
 
 add-result : tie.Need-add-result
 add-result c = search (needs, within c)

@@ -2,7 +2,7 @@
 -- Assumes nothing.
 use mathlib.Core.Path.{sym, _∙_}
 use borrow.Author.Needs.{needs}
-use Rattle.book.proofs.Replies.{place-is, fetch-is, record-refused, record-found}
+use Rattle.book.proofs.Replies.{has-place, fetch-is, record-refused, record-found}
 use Rattle.book.proofs.fetch.Statement.{statement}
 use Rattle.book.proofs.fetch.Tie as tie
 
@@ -19,7 +19,7 @@ returns c =
 
 load-body-requires : tie.Need-load-body-requires
 load-body-requires c κs =
-    let f = c .before .find .ensures in place-is 0 _ _ (f .0) (c .if1 .left) (f .1 (c .if1 .left))
+    let f = c .before .find .ensures in has-place 0 _ _ (f .0) (c .if1 .left) (f .1 (c .if1 .left))
 
 returns-2 : tie.Need-returns-2
 returns-2 c =

@@ -1,12 +1,15 @@
 -- `open` asks all lines of the table first; where none is met, front and bodies are written one behind the other, and they make up the opened book.
 -- Assumes nothing.
+use Prim.Native.Nat.{ℕ}
 use native.Mathlib.Nat.{le-of-eq}
 use native.Mathlib.Omega.{arith}
 use mathlib.Core.Path.{_≡_, sym, _∙_}
+use mathlib.Core.List.{List}
 use lib.ListN.{length}
 use Rattle.rules.specs.Opening.{openingAnswer, afterOpening}
 use Rattle.rules.proofs.Loops.Refusals.{when-accepted, when-refused}
 use Rattle.rules.proofs.File.Opened.{Accepted, accepted-facts}
+use Rattle.book.specs.Listed.{Listed}
 use Rattle.book.proofs.Lengths.{contents-within}
 use Rattle.book.proofs.Opened.{put-book}
 use borrow.Author.Needs.{needs}
@@ -23,6 +26,10 @@ accepted c = sym (c .before .opening-answer .ensures) ∙ c .if1 .left
 facts : (c : tie.Else1) → let a = start (c .before) .args in Accepted (a .n) (a .p) (a .numbers .now) (length (a .out .now))
 facts c = accepted-facts _ _ _ _ (accepted c)
 
+listed : {n p : ℕ} {l : List ℕ} {room : ℕ} → Accepted n p l room → Listed n p l
+listed f =
+    record { desks-most = f .frame .sizes .desks-most; piles-most = f .frame .sizes .piles-most; long = le-of-eq (sym (f .sized)) }
+
 opening-answer-requires : tie.Need-opening-answer-requires
 opening-answer-requires c κs = search needs
 
@@ -34,12 +41,16 @@ put-front-requires : tie.Need-put-front-requires
 put-front-requires c κs =
     let a = start (c .before .before) .args in
     let f = facts (c .before) in
-    (f .frame .desks-most, f .frame .piles-most, le-of-eq (sym (f .sized)), omega (arith, f .enough, contents-within (a .n) (a .p)), f .frame .rises)
+    record { listed = listed f; room = omega (arith, f .enough, contents-within (a .n) (a .p)); rises = f .frame .rises }
 
 put-bodies-requires : tie.Need-put-bodies-requires
 put-bodies-requires c κs =
     let f = facts (c .before .before .before .before .before) in
-    (f .frame .desks-least, f .frame .desks-most, f .frame .piles-most, le-of-eq (sym (f .sized)), omega (arith, f .enough), f .lawful)
+    record {
+      openings = record { desks-least = f .frame .sizes .desks-least; listed = listed f };
+      room = omega (arith, f .enough);
+      lawful = f .lawful;
+    }
 
 same-length : tie.Need-same-length
 same-length c = search needs

@@ -1,21 +1,22 @@
 -- `store` asks the lines of the table in their order, and writes the record over its pile's body.
 -- Assumes nothing.
-use Prim.Native.Nat.{ℕ, _<_}
+use Prim.Native.Nat.{ℕ}
 use native.Mathlib.Omega.{arith}
 use mathlib.Core.Path.{_≡_, ap, sym, _∙_}
 use borrow.Author.Needs.{needs}
 use borrow.Author.Tests.{eq-eqb, ne-eqb}
 use Rattle.rules.specs.Pile.{sameOpening}
 use Rattle.rules.specs.Layout.{desks, piles, bodyAt, pileOf}
-use Rattle.rules.specs.Book.{fetchAnswer, deskAnswer, place}
+use Rattle.rules.specs.Book.{fetchAnswer, place}
 use Rattle.rules.specs.Record.{Record, recordView, recordAnswer}
 use Rattle.rules.proofs.Loops.Logic.{holds, fails, and-both, and-left-fails, and-right-fails}
 use Rattle.rules.proofs.Pile.Agree.{same-opening-cong}
 use Rattle.rules.proofs.File.Readable.{BookFacts, book-facts}
-use Rattle.rules.proofs.File.Found.{found-readable, found-place, desk-0-fetch}
 use Rattle.rules.proofs.Record.RecordOf.{record-agrees}
 use Rattle.pile.specs.View.{asRecord}
 use Rattle.book.proofs.Lengths.{body-within}
+use Rattle.book.specs.Within.{HasPlace}
+use Rattle.book.proofs.Replies.{has-place, fetch-is}
 use Rattle.book.proofs.BookLines.{store-refused, store-own, store-record, store-30, store-accepted}
 use Rattle.book.proofs.store.Statement.{statement}
 use Rattle.book.proofs.store.Tie as tie
@@ -24,23 +25,20 @@ abbrev start : tie.After-find → tie.Start
 start c = c .before .before .before
 
 fetched : (c : tie.After-find) → c .find .result .answer ≡ fetchAnswer (start c .args .book .now) (start c .args .number)
-fetched c = c .find .ensures .0 ∙ desk-0-fetch _ _
+fetched c = fetch-is _ _ (c .find .ensures .0)
 
 -- past the first test the pile is found, and the book is as the table wants it
 found : (c : tie.Else1) → fetchAnswer (start (c .before) .args .book .now) (start (c .before) .args .number) ≡ 0
 found c = sym (fetched (c .before)) ∙ c .if1 .left
 
-asked : (c : tie.Else1) → deskAnswer 0 (start (c .before) .args .book .now) (start (c .before) .args .number) ≡ 0
-asked c = sym (c .before .find .ensures .0) ∙ c .if1 .left
-
-abbrev facts : (c : tie.Else1) → BookFacts (start (c .before) .args .book .now)
-facts c = book-facts _ (found-readable 0 _ _ (asked c))
-
 located : (c : tie.Else1) → c .before .find .result .place ≡ place (start (c .before) .args .book .now) (start (c .before) .args .number)
 located c = c .before .find .ensures .1 (c .if1 .left)
 
-below : (c : tie.Else1) → c .before .find .result .place < piles (start (c .before) .args .book .now)
-below c = omega (arith, located c, found-place 0 _ _ (asked c))
+placed : (c : tie.Else1) → HasPlace (start (c .before) .args .book .now) (c .before .find .result .place)
+placed c = has-place 0 _ _ (c .before .find .ensures .0) (c .if1 .left) (located c)
+
+abbrev facts : (c : tie.Else1) → BookFacts (start (c .before) .args .book .now)
+facts c = book-facts _ (placed c .readable)
 
 -- past the second the record is as it wants it
 abbrev one : tie.Else2 → tie.Else1
@@ -68,7 +66,7 @@ opening c =
     let own = recordView (asRecord (a .pile)) in
     let at = first .before .find .result .place in
     c .same-opening .ensures ∙ ap (λ (r : Record). sameOpening (desks b) own (recordView r)) (c .before .load-body .ensures)
-    ∙ same-opening-cong (desks b) _ _ (record-agrees (desks b) (pileOf b at) (facts first .desks-most)) own
+    ∙ same-opening-cong (desks b) _ _ (record-agrees (desks b) (pileOf b at) (facts first .sizes .desks-most)) own
     ∙ ap (λ (k : ℕ). sameOpening (desks b) own (pileOf b k)) (located first)
 
 find-requires : tie.Need-find-requires
@@ -101,13 +99,13 @@ returns-3 c =
     store-refused _ _ _ (store-30 _ _ _ (found (one second)) (passed second) (and-left-fails (ne-eqb _ _ (c .if3 .taken)) _)) (omega arith)
 
 load-body-requires : tie.Need-load-body-requires
-load-body-requires c κs = let first = one (two (c .before)) in (found-readable 0 _ _ (asked first), below first)
+load-body-requires c κs = placed (one (two (c .before)))
 
 cast-same-opening : tie.Need-cast-same-opening
 cast-same-opening c = search needs
 
 same-opening-requires : tie.Need-same-opening-requires
-same-opening-requires c κs = facts (one (two (c .before .before))) .desks-most
+same-opening-requires c κs = facts (one (two (c .before .before))) .sizes .desks-most
 
 same-length-4 : tie.Need-same-length-4
 same-length-4 c = search needs
@@ -121,7 +119,7 @@ slice-read-p : tie.Need-slice-read-p
 slice-read-p c = search (needs, facts (one (two (three (c .before)))) .long)
 
 cast-p : tie.Need-cast-p
-cast-p c = search (needs, facts (one (two (three (c .before)))) .piles-most)
+cast-p c = search (needs, facts (one (two (three (c .before)))) .sizes .piles-most)
 
 cast-save : tie.Need-cast-save
 cast-save c = search needs
@@ -132,14 +130,14 @@ cast-body-at c = search needs
 body-at-requires : tie.Need-body-at-requires
 body-at-requires c κs =
     let first = one (two (three (c .before .before))) in
-    let f = facts first in (f .desks-most, f .piles-most, omega (arith, below first, f .piles-most))
+    let f = facts first in (f .sizes .desks-most, f .sizes .piles-most, omega (arith, placed first .below, f .sizes .piles-most))
 
 save-requires : tie.Need-save-requires
 save-requires c κs =
     let first = one (two (three (four c))) in
     let b = start (first .before) .args .book .now in
     let f = facts first in
-    (f .desks-most, omega (arith, c .body-at .ensures, f .sized, body-within (desks b) (piles b) _ (below first)))
+    search (needs, f .sizes .desks-most, f .sized, body-within (desks b) (piles b) _ (placed first .below))
 
 same-length-5 : tie.Need-same-length-5
 same-length-5 c = search needs

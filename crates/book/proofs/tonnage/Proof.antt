@@ -2,7 +2,7 @@
 -- Assumes nothing.
 use mathlib.Core.Path.{_∙_}
 use borrow.Author.Needs.{needs}
-use Rattle.book.proofs.Replies.{place-is, tonnage-refused, tonnage-found}
+use Rattle.book.proofs.Replies.{has-place, tonnage-refused, tonnage-found}
 use Rattle.book.proofs.tonnage.Statement.{statement}
 use Rattle.book.proofs.tonnage.Tie as tie
 
@@ -14,7 +14,7 @@ returns c = tonnage-refused _ _ (c .before .find .ensures .0) (c .if1 .taken)
 
 load-body-requires : tie.Need-load-body-requires
 load-body-requires c κs =
-    let f = c .before .find .ensures in place-is 0 _ _ (f .0) (c .if1 .left) (f .1 (c .if1 .left))
+    let f = c .before .find .ensures in has-place 0 _ _ (f .0) (c .if1 .left) (f .1 (c .if1 .left))
 
 tonnage-requires : tie.Need-tonnage-requires
 tonnage-requires c κs = search needs

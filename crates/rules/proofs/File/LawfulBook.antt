@@ -9,7 +9,7 @@ use lib.Dec.{lit<, eqb}
 use Rattle.rules.specs.Loops.{flat, index}
 use Rattle.rules.specs.Numbers.{bytes, encode}
 use Rattle.rules.specs.Pile.{Pile}
-use Rattle.rules.specs.Layout.{bodyAt, desks, piles, pileNumber, pileOf, bodyBytes, bodyRow, entryBytes, bookBytes}
+use Rattle.rules.specs.Layout.{Sizes, bodyAt, desks, piles, pileNumber, pileOf, bodyBytes, bodyRow, entryBytes, bookBytes}
 use Rattle.rules.specs.Opening.{rising}
 use Rattle.rules.specs.Book.{bookAnswer, place}
 use Rattle.rules.proofs.Loops.Every.{index-cong}
@@ -18,7 +18,7 @@ use Rattle.rules.proofs.Pile.Facts.{PileFacts, passes}
 use Rattle.rules.proofs.Pile.Agree.{Agree, agree-sym, facts-cong}
 use Rattle.rules.proofs.File.Body.{lawful-fits}
 use Rattle.rules.proofs.File.Written.{length-book, read-number, read-position, read-pile}
-use Rattle.rules.proofs.File.Readable.{Sizes, BookFacts, book-passes, lengths}
+use Rattle.rules.proofs.File.Readable.{BookFacts, book-passes, lengths}
 use Rattle.rules.proofs.File.Rising.{rising-cong, number-most}
 
 -- the numbers of desks and piles are in range, and the pile numbers rise

@@ -11,7 +11,7 @@ use borrow.Author.Tests.{ltb-false, eqb-true, le-leb, le-ltb, eq-eqb}
 use Rattle.rules.specs.Loops.{between}
 use Rattle.rules.specs.Refusals.{_when_, _orElse_}
 use Rattle.rules.specs.Pile.{pileAnswer}
-use Rattle.rules.specs.Layout.{deskLimit, pileLimit, sizesInRange, bodyLength, bodyAt, bookLength, desks, piles, pileNumber, position, pileOf, bookBytes}
+use Rattle.rules.specs.Layout.{sizesInRange, Sizes, bodyLength, bodyAt, bookLength, desks, piles, pileNumber, position, pileOf, bookBytes}
 use Rattle.rules.specs.Opening.{rising}
 use Rattle.rules.specs.Book.{headSound, contentsSound, bookAnswer}
 use Rattle.rules.proofs.Loops.Logic.{in-range, and-left, and-right, and-both}
@@ -20,13 +20,6 @@ use Rattle.rules.proofs.Loops.Refusals.{when-done, when-not-done, orEls
 use Rattle.rules.proofs.Bytes.Numbers.{Octets}
 use Rattle.rules.proofs.Pile.Agree.{agree-refl}
 use Rattle.rules.proofs.File.Written.{write-book}
-
--- sizes of a book
-pub record Sizes (n p : ℕ) : Type 0 where
-  pub desks-least : 1 ≤ n
-  pub desks-most : n ≤ deskLimit
-  pub piles-least : 1 ≤ p
-  pub piles-most : p ≤ pileLimit
 
 pub sizes-range : (n p : ℕ) → sizesInRange n p ≡ true → Sizes n p
 unfolding sizesInRange

@@ -2,7 +2,6 @@
 -- Assumes nothing.
 use Prim.Native.Nat.{ℕ, zero, suc, _+_, _*_, _≤_, _<_}
 use native.Mathlib.Nat.{le-refl, le-step, add-suc, suc-add, zero-add, add-zero, le-of-suc-le-suc, eq-or-lt-of-le, not-suc-le-zero}
-use native.Mathlib.Numerals.{add-one}
 use native.Mathlib.Omega.{arith}
 use mathlib.Core.Path.{_≡_, refl, ap, ap₂, sym, _∙_}
 use mathlib.Core.Bool.{Bool, cond}
@@ -12,10 +11,10 @@ use lib.ListN.{length, getD, set, length-set}
 use lib.Seq.{sets, length-sets, getD-set-same, getD-set-other}
 use lib.Dec.{eqb}
 use borrow.Author.Tests.{eq-eqb, ne-eqb}
-use Rattle.rules.specs.Loops.{flat, list}
+use Rattle.rules.specs.Loops.{flat}
 use Rattle.rules.specs.Numbers.{part}
 use Rattle.rules.proofs.Loops.Ranges.{piece-within}
-use Rattle.rules.proofs.Loops.Pieces.{flat-cong, length-flat, length-list}
+use Rattle.rules.proofs.Loops.Pieces.{flat-cong, length-flat}
 use Rattle.rules.proofs.Loops.Parts.{part-is}
 
 pub getD-sets-other : (b : List ℕ) (at : ℕ) (v : List ℕ) (k : ℕ) → (k < at) ⊎ (at + length v ≤ k) → getD (sets b at v) k 0 ≡ getD b k 0
@@ -90,16 +89,12 @@ sets-in-flat (suc m) ℓ f h k v l e = ⊎-elim last (λ k<m. before k<m (sets-i
         ∙ ap₂ _++_ rest
         (sym (ap (λ (b : Bool). cond b v (f m)) (ne-eqb m k (λ q. omega arith))))
 
--- what is written in two goes, and one element after the other
+-- what is written in two goes, the second behind the first
 pub sets-append : (b : List ℕ) (at : ℕ) (v w : List ℕ) → sets b at (v ++ w) ≡ sets (sets b at v) (at + length v) w
 sets-append b at [] w = ap (λ (k : ℕ). sets b k w) (sym (add-zero at))
 sets-append b at (x ∷ v) w =
     sets-append (set b at x) (suc at) v w
     ∙ ap (λ (k : ℕ). sets (sets (set b at x) (suc at) v) k w) (suc-add at (length v) ∙ sym (add-suc at (length v)))
 
-pub sets-next : (b : List ℕ) (at k : ℕ) (f : ℕ → ℕ) → sets b at (list (k + 1) f) ≡ set (sets b at (list k f)) (at + k) (f k)
-unfolding list flat
-sets-next b at k f =
-    ap (λ (n : ℕ). sets b at (list n f)) (add-one k)
-    ∙ sets-append b at (list k f) (f k ∷ [])
-    ∙ ap (λ (j : ℕ). set (sets b at (list k f)) (at + j) (f k)) (length-list k f)
+pub sets-then : (b : List ℕ) (at : ℕ) (v : List ℕ) (to : ℕ) (w : List ℕ) → to ≡ at + length v → sets (sets b at v) to w ≡ sets b at (v ++ w)
+sets-then b at v to w e = rw e (sym (sets-append b at v w))

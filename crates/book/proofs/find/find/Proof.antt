@@ -36,11 +36,11 @@ shared-slice-read-p : tie.Need-shared-slice-read-p
 shared-slice-read-p c = search (needs, facts (c .before .before .before) .long)
 
 cast-p : tie.Need-cast-p
-cast-p c = search (needs, facts (c .before .before .before) .piles-most)
+cast-p c = search (needs, facts (c .before .before .before) .sizes .piles-most)
 
 place-of-requires : tie.Need-place-of-requires
 place-of-requires c κs =
-    let f = facts (c .before .before .before) in (f .piles-most, rw (f .sized) (contents-within _ _))
+    let f = facts (c .before .before .before) in record { piles-most = f .sizes .piles-most; within = rw (f .sized) (contents-within _ _) }
 
 returns-3 : tie.Need-returns-3
 unfolding place

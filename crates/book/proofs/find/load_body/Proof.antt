@@ -13,7 +13,7 @@ use Rattle.book.proofs.find.load_body.Tie as tie
 
 -- the book's facts, from the entry
 abbrev facts : (c : tie.Start) → BookFacts (c .args .book .now)
-facts c = book-facts _ (c .pre .0)
+facts c = book-facts _ (c .pre .readable)
 
 shared-slice-read-n : tie.Need-shared-slice-read-n
 shared-slice-read-n c = search (needs, facts (c .before .before) .long)
@@ -22,22 +22,22 @@ shared-slice-read-p : tie.Need-shared-slice-read-p
 shared-slice-read-p c = search (needs, facts (c .before .before .before) .long)
 
 cast-p : tie.Need-cast-p
-cast-p c = search (needs, facts (c .before .before .before) .piles-most)
+cast-p c = search (needs, facts (c .before .before .before) .sizes .piles-most)
 
 cast-body-at : tie.Need-cast-body-at
-cast-body-at c = search (needs, facts (c .before .before .before) .desks-most)
+cast-body-at c = search (needs, facts (c .before .before .before) .sizes .desks-most)
 
 body-at-requires : tie.Need-body-at-requires
 body-at-requires c κs =
     let f = facts (c .before .before .before) in
-    (f .desks-most, f .piles-most, omega (arith, c .before .before .before .pre .1, f .piles-most))
+    (f .sizes .desks-most, f .sizes .piles-most, omega (arith, f .sizes .piles-most))
 
 load-requires : tie.Need-load-requires
 load-requires c κs =
     let entry = c .before .before .before .before in
     let b = entry .args .book .now in
     let f = facts entry in
-    (f .desks-most, omega (arith, c .body-at .ensures, f .sized, body-within (desks b) (piles b) (entry .args .k) (entry .pre .1)))
+    search (needs, f .sizes .desks-most, f .sized, body-within (desks b) (piles b) (entry .args .k) (entry .pre .below))
 
 returns : tie.Need-returns
 unfolding pileOf

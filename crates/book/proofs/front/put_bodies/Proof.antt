@@ -2,21 +2,21 @@
 -- Assumes nothing.
 use Prim.Native.Nat.{_+_, _-_, _≤_}
 use native.Mathlib.Omega.{arith}
-use mathlib.Core.Path.{_≡_, refl, _∙_}
+use mathlib.Core.Path.{_≡_, _∙_}
 use lib.ListN.{length}
-use lib.Seq.{sets}
-use Rattle.rules.specs.Loops.{flat}
-use Rattle.rules.specs.Layout.{bodyAt}
+use Rattle.rules.specs.Layout.{bodyAt, bodyLength}
+use Rattle.rules.specs.Opening.{givenPile}
 use Rattle.rules.proofs.Loops.Refusals.{first-at}
-use Rattle.book.proofs.Lengths.{given-within, body-next, body-within, position-most}
-use Rattle.book.proofs.Opened.{body, put-given}
+use Rattle.rules.proofs.File.Body.{length-body}
+use Rattle.book.proofs.Pieces.{Written, none-written, next-written, all-written}
+use Rattle.book.proofs.Lengths.{body-within, pile-listed}
+use Rattle.book.proofs.Opened.{body, record-body}
 use borrow.Author.Needs.{needs}
 use Rattle.book.proofs.front.put_bodies.Statement.{statement}
 use Rattle.book.proofs.front.put_bodies.Tie as tie
 
 abbrev Inv-loop : tie.InvT-loop
-Inv-loop out₀ n p numbers size at₀ k₀ out at k =
-    (k ≤ p) × (length out ≡ length out₀) × (at ≡ bodyAt n p k) × (out ≡ sets out₀ (bodyAt n p 0) (flat k (body n numbers)))
+Inv-loop out₀ n p numbers size at₀ k₀ out at k = (at ≡ bodyAt n p k) × Written out₀ (bodyAt n p 0) p (body n numbers) k out
 
 abbrev μ-loop : tie.MeasureT-loop
 μ-loop out₀ n p numbers size at₀ k₀ out at k = p - k
@@ -30,10 +30,9 @@ asked c = c .before .before .before .before .before
 abbrev turn : tie.After-slice-known2 Inv-loop μ-loop → tie.In-loop Inv-loop μ-loop
 turn c = asked c .before
 
--- where the next body starts
-next : (c : tie.At-loop Inv-loop μ-loop)
-    → c .loop .at + c .before .before .body-length .result ≡ bodyAt (start c .args .n) (start c .args .p) (c .loop .k + 1)
-next c = omega (arith, c .before .before .body-length .ensures, c .loop .inv .2, body-next (start c .args .n) (start c .args .p) (c .loop .k))
+-- the body of this turn has its place
+room : (c : tie.In-loop Inv-loop μ-loop) → c .before .loop .at + bodyLength (start (c .before) .args .n) ≤ length (c .before .loop .out)
+room c = omega (arith, body-within (start (c .before) .args .n) (start (c .before) .args .p) (c .before .loop .k) (c .loop-test .taken))
 
 body-length-requires : tie.Need-body-length-requires Inv-loop μ-loop
 body-length-requires c κs = search needs
@@ -42,28 +41,16 @@ body-at-requires : tie.Need-body-at-requires Inv-loop μ-loop
 body-at-requires c κs = search needs
 
 loop-holds : tie.Need-loop-holds Inv-loop μ-loop
-unfolding flat
-loop-holds c = (search needs, refl, search needs, refl)
+loop-holds c = (c .body-at .ensures, none-written)
 
 given-pile-requires : tie.Need-given-pile-requires Inv-loop μ-loop
-given-pile-requires c κs = search (needs, given-within (start (c .before) .args .n) (c .loop-test .taken))
+given-pile-requires c κs = search (needs, pile-listed (start (c .before) .pre .openings .listed) (c .loop-test .taken))
 
 save-requires : tie.Need-save-requires Inv-loop μ-loop
-save-requires c κs =
-    let at = c .before .before .before .before in
-    let s = start at in
-    let within = body-within (s .args .n) (s .args .p) (at .loop .k) (c .before .before .before .loop-test .taken) in
-    (s .pre .1, omega (arith, s .pre .4, at .loop .inv .1, at .loop .inv .2, within))
+save-requires c κs = search (needs, room (c .before .before .before))
 
 add-at : tie.Need-add-at Inv-loop μ-loop
-add-at c =
-    let at = turn c .before in
-    let s = start at in
-    omega (
-      arith,
-      next at,
-      position-most (s .args .n) (s .args .p) (at .loop .k + 1) (s .pre .1) (s .pre .2) (omega (arith, s .pre .2, turn c .loop-test .taken)),
-    )
+add-at c = search (needs, room (turn c))
 
 add-k : tie.Need-add-k Inv-loop μ-loop
 add-k c = search needs
@@ -72,25 +59,25 @@ loop-less : tie.Need-loop-less Inv-loop μ-loop
 loop-less c = search needs
 
 loop-again : tie.Need-loop-again Inv-loop μ-loop
+unfolding bodyAt
 loop-again c =
     let at = turn c .before in
     let s = start at in
     let given = asked c .given-pile .ensures in
-    let lawful = first-at (s .args .p) _ (s .pre .5) (at .loop .k) (turn c .loop-test .taken) in (
+    let more = turn c .loop-test .taken in
+    let lawful = first-at (s .args .p) _ (s .pre .lawful) (at .loop .k) more in (
       search needs,
-      search needs,
-      next at,
-      put-given (s .args .n) (s .args .p) (s .args .numbers .now) _ (at .loop .k) (s .pre .1) (at .loop .inv .3) (at .loop .inv .2)
-          (given .1 (given .0 ∙ lawful)) (c .before .before .save .ensures),
+      next-written _ (λ j. length-body (s .args .n) (givenPile (s .args .n) (s .args .numbers .now) j)) (at .loop .inv .1) more
+          (search needs)
+          (rw (record-body (s .args .n) (s .args .numbers .now) (at .loop .k) (s .pre .openings .listed .desks-most) (given .1 (given .0 ∙ lawful)))
+          at (c .before .before .save .ensures)),
     )
 
 same-length : tie.Need-same-length Inv-loop μ-loop
 same-length c = search needs
 
 returns : tie.Need-returns Inv-loop μ-loop
-returns c =
-    let done : c .before .loop .k ≡ start (c .before) .args .p = omega arith in
-    rw done at (c .before .loop .inv .3)
+returns c = all-written (c .before .loop .inv .1) (omega arith)
 
 pub put-bodies-spec : {M : Type 1} → statement M
 put-bodies-spec =

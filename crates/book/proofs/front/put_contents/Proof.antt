@@ -1,20 +1,21 @@
 -- `put_contents` writes one entry after the other, each as its number and its position.
 -- Assumes nothing.
-use Prim.Native.Nat.{_+_, _-_, _*_, _≤_, _<_}
+use Prim.Native.Nat.{_+_, _-_, _*_, _<_}
 use native.Mathlib.Omega.{arith}
-use mathlib.Core.Path.{_≡_, refl}
-use lib.ListN.{length, getD}
-use lib.Seq.{sets}
-use Rattle.rules.specs.Loops.{flat}
+use mathlib.Core.Path.{refl}
+use lib.ListN.{getD}
+use Rattle.rules.specs.Opening.{givenPile}
 use Rattle.rules.proofs.File.Rising.{number-most}
-use Rattle.book.proofs.Lengths.{position-most, given-most, given-within, given-number}
+use Rattle.rules.proofs.File.Written.{length-entry}
+use Rattle.book.proofs.Pieces.{Written, none-written, next-written, all-written}
+use Rattle.book.proofs.Lengths.{position-most, pile-listed, given-number}
 use Rattle.book.proofs.Opened.{entry, put-entry}
 use borrow.Author.Needs.{needs}
 use Rattle.book.proofs.front.put_contents.Statement.{statement}
 use Rattle.book.proofs.front.put_contents.Tie as tie
 
 abbrev Inv-loop : tie.InvT-loop
-Inv-loop out₀ n p numbers k₀ out k = (k ≤ p) × (length out ≡ length out₀) × (out ≡ sets out₀ 4 (flat k (entry n p numbers)))
+Inv-loop out₀ n p numbers k₀ out k = Written out₀ 4 p (entry n p numbers) k out
 
 abbrev μ-loop : tie.MeasureT-loop
 μ-loop out₀ n p numbers k₀ out k = p - k
@@ -28,17 +29,13 @@ two c = c .before .before .before .before
 abbrev turn : tie.After-body-at Inv-loop μ-loop → tie.In-loop Inv-loop μ-loop
 turn c = two c .before .before .before
 
--- the numbers before pile k, and that its own has 2 bytes
-most : (c : tie.At-loop Inv-loop μ-loop) → c .loop .k * (3 + 2 * start c .args .n) ≤ 608
-most c = given-most (start c .args .n) (c .loop .k) (start c .pre .0) (omega (arith, start c .pre .1, c .loop .inv .0))
-
+-- the number of pile k has 2 bytes
 short : (c : tie.In-loop Inv-loop μ-loop)
     → getD (start (c .before) .args .numbers .now) (c .before .loop .k * (3 + 2 * start (c .before) .args .n)) 0 < 65536
-short c = rw given-number (number-most _ _ (start (c .before) .pre .4) (c .before .loop .k) (c .loop-test .taken))
+short c = rw given-number (number-most _ _ (start (c .before) .pre .rises) (c .before .loop .k) (c .loop-test .taken))
 
 loop-holds : tie.Need-loop-holds Inv-loop μ-loop
-unfolding flat
-loop-holds c = (search needs, refl, refl)
+loop-holds c = none-written
 
 mul-put2 : tie.Need-mul-put2 Inv-loop μ-loop
 mul-put2 c = search needs
@@ -53,13 +50,13 @@ add-put2-2 : tie.Need-add-put2-2 Inv-loop μ-loop
 add-put2-2 c = search needs
 
 mul-put2-3 : tie.Need-mul-put2-3 Inv-loop μ-loop
-mul-put2-3 c = search (needs, most (c .before .before))
+mul-put2-3 c = search (needs, pile-listed (start (c .before .before) .pre .listed) (c .before .loop-test .taken))
 
 mul-put2-4 : tie.Need-mul-put2-4 Inv-loop μ-loop
-mul-put2-4 c = search (needs, most (c .before .before))
+mul-put2-4 c = search (needs, pile-listed (start (c .before .before) .pre .listed) (c .before .loop-test .taken))
 
 shared-slice-read-put2 : tie.Need-shared-slice-read-put2 Inv-loop μ-loop
-shared-slice-read-put2 c = search (needs, given-within (start (c .before .before .before) .args .n) (c .before .before .loop-test .taken))
+shared-slice-read-put2 c = search (needs, pile-listed (start (c .before .before .before) .pre .listed) (c .before .before .loop-test .taken))
 
 cast-put2 : tie.Need-cast-put2 Inv-loop μ-loop
 cast-put2 c = search (needs, short (c .before .before))
@@ -80,7 +77,7 @@ cast-put4 : tie.Need-cast-put4 Inv-loop μ-loop
 cast-put4 c =
     let at = turn c .before in
     let s = start at in
-    search (needs, position-most (s .args .n) (s .args .p) (at .loop .k) (s .pre .0) (s .pre .1) (omega (arith, s .pre .1, at .loop .inv .0)))
+    search (needs, position-most (s .args .n) (s .args .p) (at .loop .k) (s .pre .listed .desks-most) (s .pre .listed .piles-most) (omega arith))
 
 put4-requires : tie.Need-put4-requires Inv-loop μ-loop
 put4-requires c κs = search needs
@@ -94,21 +91,17 @@ loop-less c = search needs
 loop-again : tie.Need-loop-again Inv-loop μ-loop
 loop-again c =
     let put = c .before .before in
-    let at = turn (put .before) .before in
-    let a = start at .args in (
-      search needs,
-      search needs,
-      put-entry (a .n) (a .p) (a .numbers .now) _ (at .loop .k) (omega (arith, start at .pre .3, turn (put .before) .loop-test .taken))
-          (at .loop .inv .2) (given-number _ _ _) (put .before .body-at .ensures) (two (put .before) .put2 .ensures .1) (put .put4 .ensures .1),
-    )
+    let now = turn (put .before) in
+    let a = start (now .before) .args in
+    next-written 6 (length-entry (a .n) (a .p) _ (givenPile (a .n) (a .numbers .now))) (now .before .loop .inv) (now .loop-test .taken) refl
+    (put-entry (a .n) (a .p) (a .numbers .now) _ (now .before .loop .k) (omega arith) (given-number _ _ _) (put .before .body-at .ensures)
+    (two (put .before) .put2 .ensures .1) (put .put4 .ensures .1))
 
 same-length : tie.Need-same-length Inv-loop μ-loop
 same-length c = search needs
 
 returns : tie.Need-returns Inv-loop μ-loop
-returns c =
-    let done : c .before .loop .k ≡ start (c .before) .args .p = omega arith in
-    rw done at (c .before .loop .inv .2)
+returns c = all-written (c .before .loop .inv) (omega arith)
 
 pub put-contents-spec : {M : Type 1} → statement M
 put-contents-spec =

@@ -1,25 +1,22 @@
 -- `copy_run` stores one number after the other, as `sets` does.
 -- Assumes nothing.
-use Prim.Native.Nat.{_+_, _-_, _≤_}
+use Prim.Native.Nat.{_+_, _-_}
 use native.Mathlib.Omega.{arith}
-use mathlib.Core.Path.{_≡_, refl, sym}
+use mathlib.Core.List.{[], _∷_}
 use lib.ListN.{getD}
-use lib.Seq.{sets, length-sets}
 use borrow.Author.Needs.{needs}
-use Rattle.rules.specs.Loops.{flat, list}
-use Rattle.rules.proofs.Loops.Sets.{sets-next}
+use Rattle.book.proofs.Pieces.{Written, none-written, next-number, all-numbers}
 use Rattle.book.proofs.given.copy_run.Statement.{statement}
 use Rattle.book.proofs.given.copy_run.Tie as tie
 
 abbrev Inv-loop : tie.InvT-loop
-Inv-loop out₀ to numbers from count k₀ out k = (k ≤ count) × (out ≡ sets out₀ to (list k (λ j. getD numbers (from + j) 0)))
+Inv-loop out₀ to numbers from count k₀ out k = Written out₀ to count (λ j. getD numbers (from + j) 0 ∷ []) k out
 
 abbrev μ-loop : tie.MeasureT-loop
 μ-loop out₀ to numbers from count k₀ out k = count - k
 
 loop-holds : tie.Need-loop-holds Inv-loop μ-loop
-unfolding list flat
-loop-holds c = (search needs, refl)
+loop-holds c = none-written
 
 add-out : tie.Need-add-out Inv-loop μ-loop
 add-out c = search needs
@@ -37,9 +34,7 @@ mul-out-2 : tie.Need-mul-out-2 Inv-loop μ-loop
 mul-out-2 c = search needs
 
 slice-write-out : tie.Need-slice-write-out Inv-loop μ-loop
-slice-write-out c =
-    let at = c .before .before in
-    rw (at .loop .inv .1, length-sets) (omega (arith, at .before .pre .0))
+slice-write-out c = search needs
 
 add-k : tie.Need-add-k Inv-loop μ-loop
 add-k c = search needs
@@ -48,15 +43,13 @@ loop-less : tie.Need-loop-less Inv-loop μ-loop
 loop-less c = search needs
 
 loop-again : tie.Need-loop-again Inv-loop μ-loop
-loop-again c = (search needs, rw (c .before .before .loop .inv .1) (sym (sets-next _ _ _ _)))
+loop-again c = next-number (c .before .before .loop .inv) (c .before .loop-test .taken)
 
 same-length : tie.Need-same-length Inv-loop μ-loop
-same-length c = rw (c .before .loop .inv .1, length-sets)
+same-length c = search needs
 
 returns : tie.Need-returns Inv-loop μ-loop
-returns c =
-    let done : c .before .loop .k ≡ c .before .before .args .count = omega arith in
-    rw done at (c .before .loop .inv .1)
+returns c = all-numbers (c .before .loop .inv) (omega arith)
 
 pub copy-run-spec : {M : Type 1} → statement M
 copy-run-spec =

@@ -45,7 +45,7 @@ unfolding givenPile given
 returns c =
     let start = c .before .before .before .before .before in
     let shares = c .before .before .before .given-shares .ensures in (
-      c .fresh .ensures .0 ∙ fresh-answer _ _ (λ s i. refl) (λ s i j. refl) shares (start .pre .0) (start .pre .1),
+      c .fresh .ensures .0 ∙ fresh-answer _ _ (λ s i. refl) (λ s i j. refl) shares (start .pre .desks-least) (start .pre .listed .desks-most),
       λ z. c .fresh .ensures .1 ∙ fresh-record _ _ (λ s i. refl) (λ s i j. refl) shares (sym (c .fresh .ensures .0) ∙ z),
     )
 

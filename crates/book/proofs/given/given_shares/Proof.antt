@@ -45,7 +45,7 @@ returns c =
     let start = one .before .before .before in
     let at : ℕ → ℕ = λ i. getD (start .args .numbers .now) i 0 in
     rw (two .copy-run2 .ensures, one .copy-run .ensures)
-    (two-runs (start .args .n) _ (start .pre .0) _ _ (λ j _. ap at (omega arith)) (λ j _. ap at (omega arith)))
+    (two-runs (start .args .n) _ (start .pre .desks-most) _ _ (λ j _. ap at (omega arith)) (λ j _. ap at (omega arith)))
 
 pub given-shares-spec : {M : Type 1} → statement M
 given-shares-spec =

@@ -1,25 +1,23 @@
 -- `contents_sound` tests one entry after the other, its number against the one before it and its position, and stops at the first that is wrong.
 -- Assumes nothing.
-use Prim.Native.Nat.{_-_, _≤_}
-use native.Mathlib.Numerals.{add-one}
+use Prim.Native.Nat.{_-_}
 use native.Mathlib.Omega.{arith}
-use mathlib.Core.Path.{_≡_, refl, ap, sym, _∙_}
+use mathlib.Core.Path.{_≡_, refl, sym, _∙_}
+use mathlib.Core.Logic.{inl}
 use mathlib.Core.Bool.{true}
 use lib.Dec.{eqb}
 use borrow.Author.Needs.{needs}
-use borrow.Author.Tests.{eq-eqb, ne-eqb, lt-ltb, le-ltb, le-leb}
+use borrow.Author.Tests.{eq-eqb, ne-eqb}
 use Rattle.rules.specs.Loops.{every}
-use Rattle.rules.specs.Layout.{pileNumberLimit, bodyAt, pileNumber, position}
-use Rattle.rules.specs.Opening.{previous, rising}
+use Rattle.rules.specs.Layout.{bodyAt, pileNumber, position}
 use Rattle.rules.proofs.Loops.Logic.{and-both, and-left-fails, and-right-fails}
 use Rattle.rules.proofs.Loops.Every.{every-next, every-stops}
+use Rattle.book.proofs.Rising.{Risen, none-risen, next-risen, not-risen, all-risen}
 use Rattle.book.proofs.head.contents_sound.Statement.{statement}
 use Rattle.book.proofs.head.contents_sound.Tie as tie
 
 abbrev Inv-loop : tie.InvT-loop
-Inv-loop book n p last₀ k₀ last k =
-    (k ≤ p) × (last ≡ previous (pileNumber book) k) × (rising k (pileNumber book) ≡ true)
-    × (every k (λ j. eqb (position book j) (bodyAt n p j)) ≡ true)
+Inv-loop book n p last₀ k₀ last k = Risen p (pileNumber book) k last × (every k (λ j. eqb (position book j) (bodyAt n p j)) ≡ true)
 
 abbrev μ-loop : tie.MeasureT-loop
 μ-loop book n p last₀ k₀ last k = p - k
@@ -31,8 +29,8 @@ unfolding pileNumber
 number-is c = c .get2 .ensures
 
 loop-holds : tie.Need-loop-holds Inv-loop μ-loop
-unfolding rising every
-loop-holds c = (search needs, refl, refl, refl)
+unfolding every
+loop-holds c = (none-risen, refl)
 
 mul-get2 : tie.Need-mul-get2 Inv-loop μ-loop
 mul-get2 c = search needs
@@ -44,11 +42,9 @@ get2-requires : tie.Need-get2-requires Inv-loop μ-loop
 get2-requires c κs = search needs
 
 returns : tie.Need-returns Inv-loop μ-loop
-unfolding rising
 returns c =
-    let at = c .before .before .before in
-    let stays = rw (number-is (c .before), at .loop .inv .1) at (c .if1 .taken) in
-    sym (and-left-fails (every-stops _ _ (at .loop .k) (search needs) (and-left-fails (le-ltb _ _ stays) _)) _)
+    let now = c .before .before in
+    sym (and-left-fails (not-risen (now .before .loop .inv .0) (now .loop-test .taken) (number-is (c .before)) (inl (c .if1 .taken))) _)
 
 mul-get4 : tie.Need-mul-get4 Inv-loop μ-loop
 mul-get4 c = search needs
@@ -79,24 +75,21 @@ loop-less : tie.Need-loop-less Inv-loop μ-loop
 loop-less c = search needs
 
 loop-again : tie.Need-loop-again Inv-loop μ-loop
-unfolding rising position
+unfolding position
 loop-again c =
     let four = c .before .before in
     let two = four .before .before in
-    let loop = two .before .before .loop in
-    let rises = rw (number-is two, loop .inv .1) at (four .before .if1 .left) in
-    let most : two .get2 .result ≤ pileNumberLimit = omega (arith, two .get2 .ok) in (
-      search needs,
-      number-is two ∙ ap (previous _) (sym (add-one (loop .k))),
-      every-next _ _ (loop .inv .2) (and-both (lt-ltb _ _ rises) (le-leb _ _ (rw (number-is two) at most))),
-      every-next _ _ (loop .inv .3) (eq-eqb _ _ (sym (four .get4 .ensures) ∙ c .if2 .left ∙ c .before .body-at .ensures)),
+    let now = two .before in
+    let inv = now .before .loop .inv in (
+      next-risen (inv .0) (now .loop-test .taken) (number-is two) (four .before .if1 .left) (omega (arith, two .get2 .ok)),
+      every-next _ _ (inv .1) (eq-eqb _ _ (sym (four .get4 .ensures) ∙ c .if2 .left ∙ c .before .body-at .ensures)),
     )
 
 returns-3 : tie.Need-returns-3 Inv-loop μ-loop
 returns-3 c =
     let at = c .before in
     let done : at .loop .k ≡ at .before .before .args .p = omega arith in
-    sym (and-both (rw done at (at .loop .inv .2)) (rw done at (at .loop .inv .3)))
+    sym (and-both (all-risen (at .loop .inv .0) (omega arith)) (rw done at (at .loop .inv .1)))
 
 pub contents-sound-spec : {M : Type 1} → statement M
 contents-sound-spec =

@@ -16,8 +16,9 @@ start c = c .before .before
 -- what the bodies before it come to
 bodies-most : (c : tie.After-body-length) → start c .args .k * c .body-length .result ≤ 32 * 648
 bodies-most c =
-    let body : c .body-length .result ≤ 648 = omega (arith, c .body-length .ensures, body-most _ (start c .pre .0)) in
-    mul-le-mul (start c .pre .2) body
+    let body : c .body-length .result ≤ 648 = omega (arith, c .body-length .ensures, body-most (start c .args .n) (omega arith)) in
+    let k≤32 : start c .args .k ≤ 32 = omega arith in
+    mul-le-mul k≤32 body
 
 front-length-requires : tie.Need-front-length-requires
 front-length-requires c κs = search needs

@@ -17,8 +17,7 @@ add-fill : tie.Need-add-fill
 add-fill c = search needs
 
 fill-requires : tie.Need-fill-requires
-fill-requires c κs =
-    let entry = c .before .before in (omega (arith, entry .pre .0), omega (arith, entry .pre, row-within (entry .args .n) 0 (omega arith)))
+fill-requires c κs = search (needs, row-within (c .before .before .args .n) 0 (omega arith))
 
 slice-aggregate-fill-2 : tie.Need-slice-aggregate-fill-2
 slice-aggregate-fill-2 c = search needs
@@ -33,9 +32,7 @@ add-fill-3 : tie.Need-add-fill-3
 add-fill-3 c = search needs
 
 fill-requires-2 : tie.Need-fill-requires-2
-fill-requires-2 c κs =
-    let entry = c .before .before .before .before .before in
-    (omega (arith, entry .pre .0), omega (arith, entry .pre, row-within (entry .args .n) 0 (omega arith)))
+fill-requires-2 c κs = search (needs, row-within (c .before .before .before .before .before .args .n) 0 (omega arith))
 
 returns : tie.Need-returns
 unfolding cellAt rowLength
@@ -44,7 +41,7 @@ returns c =
     let one = two .before .before .before in
     let args = one .before .before .before .args in
     rw (two .fill2 .ensures, one .fill .ensures)
-    (two-runs (args .n) (bodyView (args .n) (args .book .now) (args .at)) (one .before .before .before .pre .0) _ _
+    (two-runs (args .n) (bodyView (args .n) (args .book .now) (args .at)) (one .before .before .before .pre .desks-most) _ _
     (λ j l. ap (number 4 (args .book .now)) (omega arith)) (λ j l. ap (number 4 (args .book .now)) (omega arith)))
 
 pub load-shares-spec : {M : Type 1} → statement M

@@ -3,7 +3,7 @@
 use Prim.Native.Nat.{ℕ, _+_, _-_, _*_, _≤_}
 use native.Mathlib.Omega.{arith}
 use lib.ListN.{length}
-use mathlib.Core.Path.{_≡_, refl, ap}
+use mathlib.Core.Path.{ap}
 use Rattle.rules.specs.Numbers.{number}
 use Rattle.rules.specs.Layout.{bodyView, rowLength, cellAt}
 use Rattle.book.proofs.Lengths.{row-within}
@@ -13,7 +13,7 @@ use Rattle.book.proofs.load.load_tallies.Statement.{statement}
 use Rattle.book.proofs.load.load_tallies.Tie as tie
 
 abbrev Inv-loop : tie.InvT-loop
-Inv-loop book n at tallies₀ row i₀ tallies i = (i ≤ n) × (row ≡ 8 * (n + 1)) × Rows n (bodyView n book at) i tallies
+Inv-loop book n at tallies₀ row i₀ tallies i = Rows n (bodyView n book at) i tallies
 
 abbrev μ-loop : tie.MeasureT-loop
 μ-loop book n at tallies₀ row i₀ tallies i = n - i
@@ -25,7 +25,7 @@ start c = c .before .before
 -- the row that is read lies in the book
 within : (c : tie.In-loop Inv-loop μ-loop) → let a = start (c .before) .args in
     a .at + ((c .before .loop .i + 1) * (8 * (a .n + 1)) + 8 * (a .n + 1)) ≤ length (a .book .now)
-within c = omega (arith, start (c .before) .pre .1, row-within (start (c .before) .args .n) (c .before .loop .i + 1) (omega arith))
+within c = omega (arith, row-within (start (c .before) .args .n) (c .before .loop .i + 1) (omega arith))
 
 add-row : tie.Need-add-row Inv-loop μ-loop
 add-row c = search needs
@@ -34,7 +34,7 @@ mul-row : tie.Need-mul-row Inv-loop μ-loop
 mul-row c = search needs
 
 loop-holds : tie.Need-loop-holds Inv-loop μ-loop
-loop-holds c = (search needs, refl, no-rows _ _)
+loop-holds c = no-rows _ _
 
 add-from : tie.Need-add-from Inv-loop μ-loop
 add-from c = search needs
@@ -55,8 +55,7 @@ add-fill : tie.Need-add-fill Inv-loop μ-loop
 add-fill c = search needs
 
 fill-requires : tie.Need-fill-requires Inv-loop μ-loop
-fill-requires c κs =
-    (omega (arith, start (c .before .before) .pre .0), omega (arith, within (c .before), start (c .before .before) .pre .0))
+fill-requires c κs = search (needs, within (c .before))
 
 slice-aggregate-fill-2 : tie.Need-slice-aggregate-fill-2 Inv-loop μ-loop
 slice-aggregate-fill-2 c = search needs
@@ -77,9 +76,7 @@ add-fill-4 : tie.Need-add-fill-4 Inv-loop μ-loop
 add-fill-4 c = search (needs, within (c .before .before .before .before))
 
 fill-requires-2 : tie.Need-fill-requires-2 Inv-loop μ-loop
-fill-requires-2 c κs =
-    let at : tie.In-loop Inv-loop μ-loop = c .before .before .before .before in
-    (omega (arith, start (at .before) .pre .0), omega (arith, within at, start (at .before) .pre .0))
+fill-requires-2 c κs = search (needs, within (c .before .before .before .before))
 
 add-i : tie.Need-add-i Inv-loop μ-loop
 add-i c = search needs
@@ -94,18 +91,13 @@ loop-again c =
     let one = two .before .before .before in
     let at : tie.At-loop Inv-loop μ-loop = one .before .before .before in
     let a = start at .args in
-    let read : ℕ → ℕ = number 4 (a .book .now) in (
-      search needs,
-      refl,
-      rw (two .fill2 .ensures, one .fill .ensures)
-          (next-row _ _ (start at .pre .0) (at .loop .i) _ _ (one .before .before .loop-test .taken) (at .loop .inv .2) (ap read (omega arith)) (ap read (omega arith))
-          (λ j l. ap read (omega arith)) (λ j l. ap read (omega arith))),
-    )
+    let read : ℕ → ℕ = number 4 (a .book .now) in
+    rw (two .fill2 .ensures, one .fill .ensures)
+    (next-row _ _ (start at .pre .desks-most) (at .loop .i) _ _ (one .before .before .loop-test .taken) (at .loop .inv) (ap read (omega arith)) (ap read (omega arith))
+    (λ j l. ap read (omega arith)) (λ j l. ap read (omega arith)))
 
 returns : tie.Need-returns Inv-loop μ-loop
-returns c =
-    let done : c .before .loop .i ≡ start (c .before) .args .n = omega arith in
-    all-rows _ _ (start (c .before) .pre .0) (rw done at (c .before .loop .inv .2))
+returns c = all-rows _ _ (start (c .before) .pre .desks-most) (c .before .loop .inv) (omega arith)
 
 pub load-tallies-spec : {M : Type 1} → statement M
 load-tallies-spec =

@@ -1,36 +1,32 @@
 -- `openings_answer` asks one pile after the other, and stops at the first that is refused.
 -- Assumes nothing.
-use Prim.Native.Nat.{_-_, _≤_}
+use Prim.Native.Nat.{_-_}
 use native.Mathlib.Omega.{arith}
-use mathlib.Core.Path.{_≡_, refl, sym, _∙_}
 use mathlib.Core.Bool.{not}
 use borrow.Author.Needs.{needs}
-use Rattle.rules.specs.Refusals.{_when_, first}
+use Rattle.rules.specs.Refusals.{_when_}
 use Rattle.rules.specs.Pile.{openingLawful}
 use Rattle.rules.specs.Opening.{givenPile}
-use Rattle.rules.proofs.Loops.Refusals.{first-next, first-stops}
-use Rattle.book.proofs.Lengths.{given-within}
+use Rattle.book.proofs.Lengths.{pile-listed}
+use Rattle.book.proofs.Passed.{Passed, none-asked, next-passed, refused-first, all-passed}
 use Rattle.book.proofs.opening.openings_answer.Statement.{statement}
 use Rattle.book.proofs.opening.openings_answer.Tie as tie
 
 abbrev Inv-loop : tie.InvT-loop
-Inv-loop numbers n p k₀ k = (k ≤ p) × (first k (λ j. 5 when not (openingLawful n (givenPile n numbers j))) ≡ 0)
+Inv-loop numbers n p k₀ k = Passed p (λ j. 5 when not (openingLawful n (givenPile n numbers j))) k
 
 abbrev μ-loop : tie.MeasureT-loop
 μ-loop numbers n p k₀ k = p - k
 
 loop-holds : tie.Need-loop-holds Inv-loop μ-loop
-unfolding first
-loop-holds c = (search needs, refl)
+loop-holds c = none-asked
 
 given-pile-requires : tie.Need-given-pile-requires Inv-loop μ-loop
-given-pile-requires c κs = search (needs, given-within (c .before .before .before .args .n) (c .loop-test .taken))
+given-pile-requires c κs = search (needs, pile-listed (c .before .before .before .pre .listed) (c .loop-test .taken))
 
 returns : tie.Need-returns Inv-loop μ-loop
 returns c =
-    let given = c .before .given-pile .ensures .0 in
-    let at = c .before .before .before in
-    given ∙ sym (first-stops _ _ (at .loop .k) (search needs) (at .loop .inv .1) (λ z. c .if1 .taken (given ∙ z)))
+    let now = c .before .before in refused-first (now .before .loop .inv) (now .loop-test .taken) (c .before .given-pile .ensures .0) (c .if1 .taken)
 
 add-k : tie.Need-add-k Inv-loop μ-loop
 add-k c = search needs
@@ -40,13 +36,10 @@ loop-less c = search needs
 
 loop-again : tie.Need-loop-again Inv-loop μ-loop
 loop-again c =
-    let at = c .before .before .before in
-    (search needs, first-next _ _ (at .loop .inv .1) (sym (c .before .given-pile .ensures .0) ∙ c .if1 .left))
+    let now = c .before .before in next-passed (now .before .loop .inv) (now .loop-test .taken) (c .before .given-pile .ensures .0) (c .if1 .left)
 
 returns-2 : tie.Need-returns-2 Inv-loop μ-loop
-returns-2 c =
-    let done : c .before .loop .k ≡ c .before .before .before .args .p = omega arith in
-    sym (rw done at (c .before .loop .inv .1))
+returns-2 c = all-passed (c .before .loop .inv) (omega arith)
 
 pub openings-answer-spec : {M : Type 1} → statement M
 openings-answer-spec =

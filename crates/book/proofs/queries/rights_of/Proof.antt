@@ -7,7 +7,7 @@ use Rattle.rules.specs.Record.{recordRightsReply}
 use Rattle.pile.specs.View.{asRecord}
 use Rattle.pile.proofs.Sides.{draw-side, tip-side}
 use borrow.Author.Needs.{needs}
-use Rattle.book.proofs.Replies.{place-is, rights-refused, rights-found}
+use Rattle.book.proofs.Replies.{has-place, rights-refused, rights-found}
 use Rattle.book.proofs.queries.rights_of.Statement.{statement}
 use Rattle.book.proofs.queries.rights_of.Tie as tie
 
@@ -29,7 +29,7 @@ returns c = rights-refused _ _ _ (c .before .find .ensures .0) (c .if1 .taken) _
 
 load-body-requires : tie.Need-load-body-requires
 load-body-requires c κs =
-    let f = c .before .find .ensures in place-is _ _ _ (f .0) (c .if1 .left) (f .1 (c .if1 .left))
+    let f = c .before .find .ensures in has-place _ _ _ (f .0) (c .if1 .left) (f .1 (c .if1 .left))
 
 draw-rights-requires : tie.Need-draw-rights-requires
 draw-rights-requires c κs = search needs

@@ -1,23 +1,21 @@
 -- `bodies_answer` asks one body's record after the other, and a record is answered as its body's pile is.
 -- Assumes nothing.
-use Prim.Native.Nat.{ℕ, _-_, _≤_}
+use Prim.Native.Nat.{ℕ, _+_, _-_, _≤_}
 use native.Mathlib.Omega.{arith}
-use mathlib.Core.Path.{_≡_, refl, sym, ap, _∙_}
-use Rattle.rules.specs.Refusals.{first}
+use mathlib.Core.Path.{_≡_, ap, _∙_}
+use lib.ListN.{length}
 use Rattle.rules.specs.Pile.{pileAnswer}
-use Rattle.rules.specs.Layout.{bodyView, bodyAt}
+use Rattle.rules.specs.Layout.{bodyLength, bodyView, bodyAt}
 use Rattle.rules.specs.Record.{recordAnswer}
-use Rattle.rules.proofs.Loops.Refusals.{first-next, first-stops}
-use Rattle.rules.proofs.File.Readable.{lengths}
 use Rattle.rules.proofs.Record.RecordOf.{record-of-answer}
 use borrow.Author.Needs.{needs}
-use Rattle.book.proofs.Lengths.{body-next, body-within}
+use Rattle.book.proofs.Lengths.{body-within}
+use Rattle.book.proofs.Passed.{Passed, none-asked, next-passed, refused-first, all-passed}
 use Rattle.book.proofs.readable.bodies_answer.Statement.{statement}
 use Rattle.book.proofs.readable.bodies_answer.Tie as tie
 
 abbrev Inv-loop : tie.InvT-loop
-Inv-loop book n p size at₀ k₀ at k =
-    (k ≤ p) × (at ≡ bodyAt n p k) × (first k (λ j. pileAnswer n (bodyView n book (bodyAt n p j))) ≡ 0)
+Inv-loop book n p size at₀ k₀ at k = (at ≡ bodyAt n p k) × Passed p (λ j. pileAnswer n (bodyView n book (bodyAt n p j))) k
 
 abbrev μ-loop : tie.MeasureT-loop
 μ-loop book n p size at₀ k₀ at k = p - k
@@ -25,14 +23,19 @@ abbrev μ-loop : tie.MeasureT-loop
 abbrev start : tie.At-loop Inv-loop μ-loop → tie.Start Inv-loop μ-loop
 start c = c .before .before .before .before
 
+-- the body of this turn lies within the book
+within : (c : tie.In-loop Inv-loop μ-loop) → let a = start (c .before) .args in c .before .loop .at + bodyLength (a .n) ≤ length (a .book .now)
+within c = let a = start (c .before) .args in omega (arith, body-within (a .n) (a .p) (c .before .loop .k) (c .loop-test .taken))
+
 -- the loaded record is answered as the body's pile
 answered : (c : tie.After-check Inv-loop μ-loop) → let at = c .before .before .before in let a = start at .args in
     c .check .result ≡ pileAnswer (a .n) (bodyView (a .n) (a .book .now) (bodyAt (a .n) (a .p) (at .loop .k)))
 answered c =
     let at = c .before .before .before in
     let a = start at .args in
-    c .check .ensures ∙ ap recordAnswer (c .before .load .ensures) ∙ record-of-answer (a .n) _ (start at .pre .1) (start at .pre .0)
-    ∙ ap (λ (x : ℕ). pileAnswer (a .n) (bodyView (a .n) (a .book .now) x)) (at .loop .inv .1)
+    c .check .ensures ∙ ap recordAnswer (c .before .load .ensures)
+    ∙ record-of-answer (a .n) _ (start at .pre .sizes .desks-most) (start at .pre .sizes .desks-least)
+    ∙ ap (λ (x : ℕ). pileAnswer (a .n) (bodyView (a .n) (a .book .now) x)) (at .loop .inv .0)
 
 body-length-requires : tie.Need-body-length-requires Inv-loop μ-loop
 body-length-requires c κs = search needs
@@ -41,36 +44,20 @@ body-at-requires : tie.Need-body-at-requires Inv-loop μ-loop
 body-at-requires c κs = search needs
 
 loop-holds : tie.Need-loop-holds Inv-loop μ-loop
-unfolding first
-loop-holds c = (search needs, c .body-at .ensures, refl)
+loop-holds c = (c .body-at .ensures, none-asked)
 
 load-requires : tie.Need-load-requires Inv-loop μ-loop
-load-requires c κs =
-    let at = c .before in
-    let a = start at .args in
-    (start at .pre .1, omega (arith, start at .pre .3, at .loop .inv .1, body-within (a .n) (a .p) (at .loop .k) (c .loop-test .taken)))
+load-requires c κs = search (needs, within c)
 
 check-requires : tie.Need-check-requires Inv-loop μ-loop
 check-requires c κs = search needs
 
 returns : tie.Need-returns Inv-loop μ-loop
 returns c =
-    let at = c .before .before .before .before in
-    answered (c .before)
-    ∙ sym (first-stops _ _ (at .loop .k) (c .before .before .before .loop-test .taken) (at .loop .inv .2) (λ z. c .if1 .taken (answered (c .before) ∙ z)))
+    let now = c .before .before .before in refused-first (now .before .loop .inv .1) (now .loop-test .taken) (answered (c .before)) (c .if1 .taken)
 
 add-at : tie.Need-add-at Inv-loop μ-loop
-add-at c =
-    let at = c .before .before .before .before in
-    let a = start at .args in
-    let more = c .before .before .before .loop-test .taken in
-    omega (
-      arith,
-      at .before .before .body-length .ensures,
-      at .loop .inv .1,
-      body-within (a .n) (a .p) (at .loop .k) more,
-      lengths (a .n) (a .p) (start at .pre .0) (start at .pre .1) (omega (arith, more)) (start at .pre .2) .1,
-    )
+add-at c = search (needs, within (c .before .before .before))
 
 add-k : tie.Need-add-k Inv-loop μ-loop
 add-k c = search needs
@@ -79,18 +66,13 @@ loop-less : tie.Need-loop-less Inv-loop μ-loop
 loop-less c = search needs
 
 loop-again : tie.Need-loop-again Inv-loop μ-loop
+unfolding bodyAt
 loop-again c =
-    let at = c .before .before .before .before in
-    let a = start at .args in (
-      search needs,
-      omega (arith, at .before .before .body-length .ensures, at .loop .inv .1, body-next (a .n) (a .p) (at .loop .k)),
-      first-next _ _ (at .loop .inv .2) (sym (answered (c .before)) ∙ c .if1 .left),
-    )
+    let now = c .before .before .before in
+    (search needs, next-passed (now .before .loop .inv .1) (now .loop-test .taken) (answered (c .before)) (c .if1 .left))
 
 returns-2 : tie.Need-returns-2 Inv-loop μ-loop
-returns-2 c =
-    let done : c .before .loop .k ≡ start (c .before) .args .p = omega arith in
-    sym (rw done at (c .before .loop .inv .2))
+returns-2 c = all-passed (c .before .loop .inv .1) (omega arith)
 
 pub bodies-answer-spec : {M : Type 1} → statement M
 bodies-answer-spec =

@@ -1,15 +1,15 @@
 -- `book_answer` asks the lines of the table in their order.
 -- Assumes nothing.
-use Prim.Native.Nat.{_+_, _*_, _≤_}
+use Prim.Native.Nat.{_≤_}
 use mathlib.Core.Path.{_≡_, sym, _∙_}
 use mathlib.Core.Bool.{true}
 use lib.ListN.{length}
-use Rattle.rules.specs.Layout.{bookLength, desks, piles, pileOf}
+use Rattle.rules.specs.Layout.{bookLength, desks, piles, pileOf, Sizes}
 use Rattle.rules.specs.Book.{headSound, contentsSound}
 use Rattle.rules.proofs.Loops.Logic.{holds, fails}
 use borrow.Author.Needs.{needs}
 use Rattle.book.proofs.Lengths.{contents-within}
-use Rattle.book.proofs.BookLines.{answer-1, answer-2, desks-range, piles-range, answer-3, answer-4, answer-of-bodies}
+use Rattle.book.proofs.BookLines.{answer-1, answer-2, sizes, answer-3, answer-4, answer-of-bodies}
 use Rattle.book.proofs.readable.book_answer.Statement.{statement}
 use Rattle.book.proofs.readable.book_answer.Tie as tie
 
@@ -23,15 +23,15 @@ long c = c .before .before .if1 .left
 abbrev headed : (c : tie.Else2) → headSound (start c .args .book .now) ≡ true
 headed c = holds (c .before .head-sound .ensures) (c .if2 .left)
 
+abbrev ranged : (c : tie.Else2) → Sizes (desks (start c .args .book .now)) (piles (start c .args .book .now))
+ranged c = sizes _ (long c) (headed c)
+
 abbrev read : tie.After-body-at → tie.Else2
 read c = c .before .before .before
 
 sized : (c : tie.Else3) → let b = start (read (c .before)) .args .book .now in length b ≡ bookLength (desks b) (piles b)
 unfolding bookLength
 sized c = c .if3 .left ∙ c .before .body-at .ensures
-
-contents-fit : (c : tie.Else3) → 4 + piles (start (read (c .before)) .args .book .now) * 6 ≤ length (start (read (c .before)) .args .book .now)
-contents-fit c = rw (sized c) (contents-within _ _)
 
 returns : tie.Need-returns
 returns c = answer-1 _ (c .if1 .taken)
@@ -49,26 +49,25 @@ shared-slice-read-p : tie.Need-shared-slice-read-p
 shared-slice-read-p c = search needs
 
 cast-p : tie.Need-cast-p
-cast-p c = search (needs, piles-range _ (long (c .before .before)) (headed (c .before .before)))
+cast-p c = search (needs, ranged (c .before .before))
 
 cast-body-at : tie.Need-cast-body-at
-cast-body-at c = search (needs, desks-range _ (long (c .before .before)) (headed (c .before .before)))
+cast-body-at c = search (needs, ranged (c .before .before))
 
 body-at-requires : tie.Need-body-at-requires
-body-at-requires c κs =
-    let two = c .before .before in
-    let p≤32 = piles-range _ (long two) (headed two) .1 in (desks-range _ (long two) (headed two) .1, p≤32, p≤32)
+body-at-requires c κs = search (needs, ranged (c .before .before))
 
 returns-3 : tie.Need-returns-3
 unfolding bookLength
 returns-3 c = answer-3 _ (long (read (c .before))) (headed (read (c .before))) (λ e. c .if3 .taken (e ∙ sym (c .before .body-at .ensures)))
 
 cast-contents-sound : tie.Need-cast-contents-sound
-cast-contents-sound c = search (needs, desks-range _ (long (read (c .before))) (headed (read (c .before))))
+cast-contents-sound c = search (needs, ranged (read (c .before)))
 
 contents-sound-requires : tie.Need-contents-sound-requires
 contents-sound-requires c κs =
-    let two = read (c .before) in (desks-range _ (long two) (headed two) .1, piles-range _ (long two) (headed two) .1, contents-fit c)
+    let r = ranged (read (c .before)) in
+    (r .desks-most, record { piles-most = r .piles-most; within = rw (sized c) (contents-within _ _) })
 
 returns-4 : tie.Need-returns-4
 unfolding contentsSound
@@ -79,9 +78,7 @@ returns-4 c =
 
 bodies-answer-requires : tie.Need-bodies-answer-requires
 bodies-answer-requires c κs =
-    let three = c .before .before in
-    let two = read (three .before) in
-    let n = desks-range _ (long two) (headed two) in (n .0, n .1, piles-range _ (long two) (headed two) .1, sized three)
+    let three = c .before .before in record { sizes = ranged (read (three .before)); sized = sized three }
 
 returns-5 : tie.Need-returns-5
 unfolding contentsSound pileOf

@@ -1,34 +1,25 @@
 -- `put_run` writes one number after the other, each behind the one before it.
 -- Assumes nothing.
-use Prim.Native.Nat.{_+_, _-_, _≤_}
+use Prim.Native.Nat.{_+_, _-_}
 use native.Mathlib.Omega.{arith}
-use mathlib.Core.Path.{_≡_, refl, _∙_}
-use lib.ListN.{length, getD}
-use lib.Seq.{sets}
-use Rattle.rules.specs.Loops.{flat}
+use mathlib.Core.Path.{refl, _∙_}
+use lib.ListN.{getD}
 use Rattle.rules.specs.Numbers.{bytes}
 use Rattle.rules.proofs.Bytes.Numbers.{length-bytes, encode-list}
-use Rattle.book.proofs.Saved.{put-fits, sets-piece}
+use Rattle.book.proofs.Pieces.{Written, none-written, next-written, all-written}
+use Rattle.book.proofs.Saved.{put-fits}
 use borrow.Author.Needs.{needs}
 use Rattle.book.proofs.save.put_run.Statement.{statement}
 use Rattle.book.proofs.save.put_run.Tie as tie
 
 abbrev Inv-loop : tie.InvT-loop
-Inv-loop book₀ at numbers from count k₀ book k =
-    (k ≤ count) × (length book ≡ length book₀) × (book ≡ sets book₀ at (flat k (λ j. bytes 4 (getD numbers (from + j) 0))))
+Inv-loop book₀ at numbers from count k₀ book k = Written book₀ at count (λ j. bytes 4 (getD numbers (from + j) 0)) k book
 
 abbrev μ-loop : tie.MeasureT-loop
 μ-loop book₀ at numbers from count k₀ book k = count - k
 
-abbrev start : tie.At-loop Inv-loop μ-loop → tie.Start Inv-loop μ-loop
-start c = c .before .before .before
-
-abbrev head : tie.After-put4 Inv-loop μ-loop → tie.At-loop Inv-loop μ-loop
-head c = c .before .before .before .before
-
 loop-holds : tie.Need-loop-holds Inv-loop μ-loop
-unfolding flat
-loop-holds c = (search needs, refl, refl)
+loop-holds c = none-written
 
 mul-put4 : tie.Need-mul-put4 Inv-loop μ-loop
 mul-put4 c = search needs
@@ -57,21 +48,14 @@ loop-less c = search needs
 loop-again : tie.Need-loop-again Inv-loop μ-loop
 loop-again c =
     let put = c .before .before in
-    let loop = head put .loop in (
-      search needs,
-      search needs,
-      put .put4 .ensures .1
-          ∙ put-fits 4 _ _ _ (omega arith)
-          ∙ rw (loop .inv .2) (sets-piece _ _ 4 (loop .k) _ (λ j. length-bytes 4 _)),
-    )
+    let turn = put .before .before .before in
+    next-written 4 (λ j. length-bytes 4 _) (turn .before .loop .inv) (turn .loop-test .taken) refl (put .put4 .ensures .1 ∙ put-fits 4 _ _ _ (omega arith))
 
 same-length : tie.Need-same-length Inv-loop μ-loop
 same-length c = search needs
 
 returns : tie.Need-returns Inv-loop μ-loop
-returns c =
-    let done : c .before .loop .k ≡ start (c .before) .args .count = omega arith in
-    rw done at (c .before .loop .inv .2) ∙ rw encode-list
+returns c = rw encode-list (all-written (c .before .loop .inv) (omega arith))
 
 pub put-run-spec : {M : Type 1} → statement M
 put-run-spec =

@@ -27,7 +27,7 @@ third c = c .before .before .before .before .before .before
 
 -- the body has its place, and so has each share
 room : (c : tie.Start) → c .args .at + (8 * (c .args .n + 1) + c .args .n * rowLength (c .args .n)) ≤ length (c .args .book .now)
-room c = rw (body-room (c .args .n)) (c .pre .1)
+room c = rw (body-room (c .args .n)) (c .pre .within)
 
 shares : (c : tie.Start) → 8 + c .args .n ≤ length (c .args .pile .shares)
 shares c = let l : length (c .args .pile .shares) ≡ sharePlaces = search needs in omega arith
@@ -36,7 +36,7 @@ slice-aggregate-put-run : tie.Need-slice-aggregate-put-run
 slice-aggregate-put-run c = search needs
 
 put-run-requires : tie.Need-put-run-requires
-put-run-requires c κs = (omega (arith, room (c .before .before .before)), search needs)
+put-run-requires c κs = search (needs, room (c .before .before .before))
 
 add-put-run : tie.Need-add-put-run
 add-put-run c = search needs
@@ -47,7 +47,7 @@ slice-aggregate-put-run-2 c = search needs
 put-run-requires-2 : tie.Need-put-run-requires-2
 put-run-requires-2 c κs =
     let s = start (c .before .before .before .before .before) in
-    (omega (arith, room s), omega (arith, shares s))
+    search (needs, room s, shares s)
 
 add-put-run-2 : tie.Need-add-put-run-2
 add-put-run-2 c = search needs
@@ -64,7 +64,7 @@ slice-aggregate-put-run-3 c = search needs
 put-run-requires-3 : tie.Need-put-run-requires-3
 put-run-requires-3 c κs =
     let s = start (first (c .before .before .before .before)) in
-    (omega (arith, room s), shares s)
+    search (needs, room s, shares s)
 
 add-save-rows : tie.Need-add-save-rows
 add-save-rows c = search needs
@@ -81,7 +81,7 @@ slice-aggregate-save-rows c = search needs
 save-rows-requires : tie.Need-save-rows-requires
 save-rows-requires c κs =
     let s = start (first (second (c .before .before .before .before .before))) in
-    (s .pre .0, omega (arith, room s), search needs)
+    search (needs, room s)
 
 same-length : tie.Need-same-length
 same-length c = search needs

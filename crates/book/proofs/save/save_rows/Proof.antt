@@ -2,20 +2,18 @@
 -- Assumes nothing.
 use Prim.Native.Nat.{_+_, _-_, _*_, _≤_}
 use native.Mathlib.Omega.{arith}
-use mathlib.Core.Path.{_≡_, refl}
-use lib.ListN.{length}
-use lib.Seq.{sets}
-use Rattle.rules.specs.Loops.{flat}
+use mathlib.Core.Path.{refl}
 use Rattle.rules.specs.Numbers.{encode}
 use Rattle.rules.specs.Layout.{rowLength}
-use Rattle.book.proofs.Saved.{row-room, tallyRow, put-tallies}
+use Rattle.book.proofs.Pieces.{Written, none-written, next-written, all-written}
+use Rattle.book.proofs.Saved.{tallyRow, length-tally-row, put-tallies}
 use borrow.Author.Needs.{needs}
 use Rattle.book.proofs.save.save_rows.Statement.{statement}
 use Rattle.book.proofs.save.save_rows.Tie as tie
+use Rattle.rules.proofs.Loops.Ranges.{piece-within}
 
 abbrev Inv-loop : tie.InvT-loop
-Inv-loop book₀ n at tallies row i₀ book i =
-    (i ≤ n) × (length book ≡ length book₀) × (book ≡ sets book₀ at (flat i (λ k. encode (tallyRow n tallies k))))
+Inv-loop book₀ n at tallies row i₀ book i = Written book₀ at n (λ j. encode (tallyRow n tallies j)) i book
 
 abbrev μ-loop : tie.MeasureT-loop
 μ-loop book₀ n at tallies row i₀ book i = n - i
@@ -30,7 +28,8 @@ turn c = c .before .before .before .before .before
 room : (c : tie.In-loop Inv-loop μ-loop)
     → c .before .loop .i * (8 * (start (c .before) .args .n + 1)) + 8 * (start (c .before) .args .n + 1)
     ≤ start (c .before) .args .n * rowLength (start (c .before) .args .n)
-room c = row-room (start (c .before) .args .n) (c .before .loop .i) (c .loop-test .taken)
+unfolding rowLength
+room c = piece-within (8 * (start (c .before) .args .n + 1)) (c .loop-test .taken)
 
 add-row : tie.Need-add-row Inv-loop μ-loop
 add-row c = search needs
@@ -39,8 +38,7 @@ mul-row : tie.Need-mul-row Inv-loop μ-loop
 mul-row c = search needs
 
 loop-holds : tie.Need-loop-holds Inv-loop μ-loop
-unfolding flat
-loop-holds c = (search needs, refl, refl)
+loop-holds c = none-written
 
 mul-to : tie.Need-mul-to Inv-loop μ-loop
 mul-to c = omega (arith, room c)
@@ -55,7 +53,7 @@ add-put-run : tie.Need-add-put-run Inv-loop μ-loop
 add-put-run c = search needs
 
 put-run-requires : tie.Need-put-run-requires Inv-loop μ-loop
-put-run-requires c κs = (omega (arith, room (c .before)), omega arith)
+put-run-requires c κs = search (needs, room (c .before))
 
 add-put-run-2 : tie.Need-add-put-run-2 Inv-loop μ-loop
 add-put-run-2 c = omega (arith, room (turn c))
@@ -73,7 +71,7 @@ add-put-run-4 : tie.Need-add-put-run-4 Inv-loop μ-loop
 add-put-run-4 c = search needs
 
 put-run-requires-2 : tie.Need-put-run-requires-2 Inv-loop μ-loop
-put-run-requires-2 c κs = (omega (arith, room (turn c)), omega arith)
+put-run-requires-2 c κs = search (needs, room (turn c))
 
 add-i : tie.Need-add-i Inv-loop μ-loop
 add-i c = search needs
@@ -84,21 +82,16 @@ loop-less c = search needs
 loop-again : tie.Need-loop-again Inv-loop μ-loop
 loop-again c =
     let last = c .before .before in
-    let args = start (turn (last .before) .before) .args in
-    let loop = turn (last .before) .before .loop in
-    let first = last .before .before .before .before in (
-      search needs,
-      search needs,
-      put-tallies _ (args .at) (args .n) (args .tallies .now) (loop .i) (loop .inv .2) (first .put-run .ensures) (last .put-run2 .ensures),
-    )
+    let now = turn (last .before) in
+    let args = start (now .before) .args in
+    next-written _ (length-tally-row (args .n) (args .tallies .now)) (now .before .loop .inv) (now .loop-test .taken) refl
+    (put-tallies _ _ (args .n) (args .tallies .now) (now .before .loop .i) (last .before .before .before .before .put-run .ensures) (last .put-run2 .ensures))
 
 same-length : tie.Need-same-length Inv-loop μ-loop
 same-length c = search needs
 
 returns : tie.Need-returns Inv-loop μ-loop
-returns c =
-    let done : c .before .loop .i ≡ start (c .before) .args .n = omega arith in
-    rw done at (c .before .loop .inv .2)
+returns c = all-written (c .before .loop .inv) (omega arith)
 
 pub save-rows-spec : {M : Type 1} → statement M
 save-rows-spec =

@@ -1,0 +1,35 @@
+-- What the functions that read and write a book ask of its bytes: that a part lies within them, or that they are a book.
+-- Assumes nothing.
+use Prim.Native.Nat.{ℕ, _+_, _*_, _≤_, _<_}
+use mathlib.Core.Path.{_≡_}
+use mathlib.Core.List.{List}
+use lib.ListN.{length}
+use Rattle.rules.specs.Layout.{deskLimit, pileLimit, Sizes, frontLength, rowLength, bodyLength, bookLength, piles}
+use Rattle.rules.specs.Book.{bookAnswer}
+use Rattle.rules.specs.Record.{tallyPlaces}
+
+-- the head and the contents of p piles
+pub record FrontWithin (p : ℕ) (b : List ℕ) : Type 0 where
+  pub piles-most : p ≤ pileLimit
+  pub within : frontLength p ≤ length b
+
+-- a body of n desks, from a position on
+pub record BodyWithin (n at : ℕ) (b : List ℕ) : Type 0 where
+  pub desks-most : n ≤ deskLimit
+  pub within : at + bodyLength n ≤ length b
+
+-- the rows of n desks, from a position on, where the array that they are written from has all 8
+pub record RowsWithin (n at : ℕ) (b tallies : List ℕ) : Type 0 where
+  pub desks-most : n ≤ deskLimit
+  pub within : at + n * rowLength n ≤ length b
+  pub all-there : length tallies ≡ tallyPlaces
+
+-- a whole book of n desks and p piles, and nothing behind it
+pub record BookSized (n p : ℕ) (b : List ℕ) : Type 0 where
+  pub sizes : Sizes n p
+  pub sized : length b ≡ bookLength n p
+
+-- a readable book that has a pile at place k
+pub record HasPlace (b : List ℕ) (k : ℕ) : Type 0 where
+  pub readable : bookAnswer b ≡ 0
+  pub below : k < piles b
