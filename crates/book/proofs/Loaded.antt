@@ -14,7 +14,7 @@ use borrow.Author.Count.{below-more}
 use Rattle.rules.specs.Loops.{list}
 use Rattle.rules.specs.Pile.{Side, draw, tip, Pile}
 use Rattle.rules.specs.Layout.{earnedColumn, column}
-use Rattle.rules.specs.Record.{padded, recordOf, rowPlaces, tallyPlaces, sharePlaces}
+use Rattle.rules.specs.Record.{padded, recordOf, rowPlaces, tallyPlaces, sharePlaces, tipsPlace}
 use Rattle.rules.proofs.Loops.Pieces.{length-list, getD-list}
 use Rattle.rules.proofs.Loops.Sets.{getD-sets-in, getD-sets-other}
 use Rattle.rules.proofs.File.Body.{column-below}
@@ -77,7 +77,7 @@ module _ (n : ℕ) (p : Pile) where
         long = length-sets (replicate sharePlaces 0) 0 (list n f)
 
         zeros : (k : ℕ) → n ≤ k → k < sharePlaces → getD half k 0 ≡ 0
-        zeros k n≤k k<sharePlaces = run-out (replicate sharePlaces 0) 0 n f k (inr (omega arith)) ∙ getD-replicate sharePlaces k 0 0 k<sharePlaces
+        zeros k n≤k k<shares = run-out (replicate sharePlaces 0) 0 n f k (inr (omega arith)) ∙ getD-replicate sharePlaces k 0 0 k<shares
 
         at : (s : Side) (j : ℕ) → j < 8 → getD (p .floor ∷ p .top ∷ all) (column 8 s j) 0 ≡ padded n (p .share s) j
         at draw j j<8 =
@@ -91,22 +91,22 @@ module _ (n : ℕ) (p : Pile) where
     -- the next row: a run of tipped, drawn and draw gives, and one of tip gives
     pub next-row : {l : List ℕ} (i : ℕ) (f g : ℕ → ℕ) → i < n → Rows i l → f 0 ≡ p .earned draw i → f 1 ≡ p .earned tip i
         → ((j : ℕ) → j < n → f (2 + j) ≡ p .give draw i j) → ((j : ℕ) → j < n → g j ≡ p .give tip i j)
-        → Rows (i + 1) (sets (sets l (i * rowPlaces) (list (2 + n) f)) (i * rowPlaces + 10) (list n g))
+        → Rows (i + 1) (sets (sets l (i * rowPlaces) (list (2 + n) f)) (i * rowPlaces + tipsPlace) (list n g))
     next-row {l} i f g i<n r tipped drawn draws tips =
         record {
           counted = omega arith;
-          long = length-sets half (i * rowPlaces + 10) (list n g) ∙ half-long;
+          long = length-sets half (i * rowPlaces + tipsPlace) (list n g) ∙ half-long;
           earned = λ s. below-more _ i (λ k k<i. before k (earnedColumn s) k<i (column-low s) ∙ r .earned s k k<i) (own-earned s);
           give = λ s k j k≤i j<8. below-more (λ k. getD all (k * rowPlaces + column 8 s j) 0 ≡ padded n (p .give s k) j) i
               (λ k k<i. before k (column 8 s j) k<i (column-below 8 s j j<8) ∙ r .give s k j k<i j<8) (own-give s j j<8) k k≤i;
-          rest = λ k m k<tallyPlaces. run-out half (i * rowPlaces + 10) n g k (inr (omega arith)) ∙ zeros k (omega arith) k<tallyPlaces;
+          rest = λ k m k<tallies. run-out half (i * rowPlaces + tipsPlace) n g k (inr (omega arith)) ∙ zeros k (omega arith) k<tallies;
         }
       where
         half : List ℕ
         half = sets l (i * rowPlaces) (list (2 + n) f)
 
         all : List ℕ
-        all = sets half (i * rowPlaces + 10) (list n g)
+        all = sets half (i * rowPlaces + tipsPlace) (list n g)
 
         half-long : length half ≡ tallyPlaces
         half-long = length-sets l (i * rowPlaces) (list (2 + n) f) ∙ r .long
@@ -117,15 +117,15 @@ module _ (n : ℕ) (p : Pile) where
 
         -- the rows before are as they were, and what stands behind the first run is 0
         before : (k c : ℕ) → k < i → c < rowPlaces → getD all (k * rowPlaces + c) 0 ≡ getD l (k * rowPlaces + c) 0
-        before k c k<i c<rowPlaces =
-            run-out half (i * rowPlaces + 10) n g (k * rowPlaces + c) (inl (omega arith)) ∙ run-out l (i * rowPlaces) (2 + n) f (k * rowPlaces + c) (inl (omega arith))
+        before k c k<i c<row =
+            run-out half (i * rowPlaces + tipsPlace) n g (k * rowPlaces + c) (inl (omega arith)) ∙ run-out l (i * rowPlaces) (2 + n) f (k * rowPlaces + c) (inl (omega arith))
 
         zeros : (k : ℕ) → i * rowPlaces + (2 + n) ≤ k → k < tallyPlaces → getD half k 0 ≡ 0
-        zeros k m k<tallyPlaces = run-out l (i * rowPlaces) (2 + n) f k (inr m) ∙ r .rest k (omega arith) k<tallyPlaces
+        zeros k m k<tallies = run-out l (i * rowPlaces) (2 + n) f k (inr m) ∙ r .rest k (omega arith) k<tallies
 
         first : (c : ℕ) → c < 2 + n → c < 10 → getD all (i * rowPlaces + c) 0 ≡ f c
         first c c<m c<10 =
-            run-out half (i * rowPlaces + 10) n g (i * rowPlaces + c) (inl (omega arith)) ∙ run-in l (i * rowPlaces) (2 + n) f c (omega (arith, r .long)) c<m
+            run-out half (i * rowPlaces + tipsPlace) n g (i * rowPlaces + c) (inl (omega arith)) ∙ run-in l (i * rowPlaces) (2 + n) f c (omega (arith, r .long)) c<m
 
         own-earned : (s : Side) → getD all (i * rowPlaces + earnedColumn s) 0 ≡ p .earned s i
         own-earned draw = first 0 (omega arith) (lit< tt) ∙ tipped
@@ -134,11 +134,11 @@ module _ (n : ℕ) (p : Pile) where
         own-give : (s : Side) (j : ℕ) → j < 8 → getD all (i * rowPlaces + column 8 s j) 0 ≡ padded n (p .give s i) j
         own-give draw j j<8 =
             by-cases (decLt j n) (λ j<n. first (2 + j) (omega arith) (omega arith) ∙ draws j j<n ∙ sym (padded-used n (p .give draw i) j j<n))
-            (λ j≥n. run-out half (i * rowPlaces + 10) n g (i * rowPlaces + (2 + j)) (inl (omega arith)) ∙ zeros (i * rowPlaces + (2 + j)) (omega arith) (omega arith)
+            (λ j≥n. run-out half (i * rowPlaces + tipsPlace) n g (i * rowPlaces + (2 + j)) (inl (omega arith)) ∙ zeros (i * rowPlaces + (2 + j)) (omega arith) (omega arith)
             ∙ sym (padded-unused n (p .give draw i) j (omega arith)))
         own-give tip j j<8 =
             ap (λ (k : ℕ). getD all k 0) (omega arith)
-            ∙ run-padded half (i * rowPlaces + 10) n g (p .give tip i) j (omega (arith, half-long)) (λ k m k<. zeros k (omega arith) (omega arith)) tips j<8
+            ∙ run-padded half (i * rowPlaces + tipsPlace) n g (p .give tip i) j (omega (arith, half-long)) (λ k m k<. zeros k (omega arith) (omega arith)) tips j<8
 
     pub all-rows : {m : ℕ} {l : List ℕ} → Rows m l → n ≤ m → l ≡ recordOf n p .tallies
     all-rows {l = l} r n≤m =

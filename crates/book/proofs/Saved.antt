@@ -12,7 +12,7 @@ use borrow.Author.Tests.{le-ltb}
 use Rattle.rules.specs.Loops.{flat, list}
 use Rattle.rules.specs.Numbers.{bytes, encode, putAnswer, afterPut}
 use Rattle.rules.specs.Layout.{rowLength, bodyLength, rowOf, bodyRow, bodyBytes}
-use Rattle.rules.specs.Record.{Record, recordCell, recordView, rowPlaces}
+use Rattle.rules.specs.Record.{Record, recordCell, recordView, rowPlaces, tipsPlace}
 use Rattle.rules.proofs.Loops.Refusals.{not-met, when-accepted}
 use Rattle.rules.proofs.Loops.Pieces.{flat-cong, flat-add, length-list, list-add, list-cong}
 use Rattle.rules.proofs.Bytes.Numbers.{encode-append, length-encode}
@@ -48,7 +48,7 @@ body-room n = omega arith
 
 -- the two runs of row i of the tallies, as far as n desks go
 abbrev pub tallyRow : ℕ → List ℕ → ℕ → List ℕ
-tallyRow n tallies i = run tallies (i * rowPlaces) (2 + n) ++ run tallies (i * rowPlaces + 10) n
+tallyRow n tallies i = run tallies (i * rowPlaces) (2 + n) ++ run tallies (i * rowPlaces + tipsPlace) n
 
 pub length-tally-row : (n : ℕ) (tallies : List ℕ) (i : ℕ) → length (encode (tallyRow n tallies i)) ≡ 8 * (n + 1)
 length-tally-row n tallies i = length-encode (tallyRow n tallies i) ∙ simp (length-append, length-list) (omega arith)
@@ -56,7 +56,7 @@ length-tally-row n tallies i = length-encode (tallyRow n tallies i) ∙ simp (le
 -- what they leave
 pub put-tallies : (before : List ℕ) (to n : ℕ) (tallies : List ℕ) (i : ℕ) {between after : List ℕ}
     → between ≡ sets before to (encode (run tallies (i * rowPlaces) (2 + n)))
-    → after ≡ sets between (to + 8 + 4 * n) (encode (run tallies (i * rowPlaces + 10) n))
+    → after ≡ sets between (to + 8 + 4 * n) (encode (run tallies (i * rowPlaces + tipsPlace) n))
     → after ≡ sets before to (encode (tallyRow n tallies i))
 put-tallies before to n tallies i first second =
     rw (second, first) (sets-goes before _ _ _ _ (omega (arith, length-run tallies (i * rowPlaces) (2 + n))))

@@ -11,7 +11,7 @@ ghost use lib.Seq.{sets};
 ghost use Rattle.rules.specs.Loops.{flat, list};
 ghost use Rattle.rules.specs.Numbers.{encode};
 ghost use Rattle.rules.specs.Layout.{bodyBytes};
-ghost use Rattle.rules.specs.Record.{recordView, rowPlaces};
+ghost use Rattle.rules.specs.Record.{recordView, rowPlaces, tipsPlace};
 ghost use Rattle.pile.specs.View.{asRecord};
 ghost use Rattle.book.specs.Runs.{RunFits};
 ghost use Rattle.book.specs.Within.{RowsWithin, BodyWithin};
@@ -32,7 +32,7 @@ pub(crate) fn put_run(book: &mut [u8], at: usize, numbers: &[u32], from: usize, 
 fn save_rows(book: &mut [u8], n: usize, at: usize, tallies: &[u32])
     requires { ⌜ RowsWithin n at (now book) (now tallies) ⌝ }
     ensures { λ _. ⌜ now (book .exit) ≡ sets (now (book .entry)) at (flat n (λ i. encode
-        (list (2 + n) (λ k. getD (now (tallies .entry)) (i * rowPlaces + k) 0) ++ list n (λ k. getD (now (tallies .entry)) (i * rowPlaces + 10 + k) 0)))) ⌝ }
+        (list (2 + n) (λ k. getD (now (tallies .entry)) (i * rowPlaces + k) 0) ++ list n (λ k. getD (now (tallies .entry)) (i * rowPlaces + tipsPlace + k) 0)))) ⌝ }
 {
     let row = 8 * (n + 1);
     let mut i = 0;

@@ -80,7 +80,7 @@ module _ (r : Record) (n : ℕ) (n≤8 : n ≤ 8) where
   rest = every (tallyPlaces - n * rowPlaces) (λ k. eqb (getD (r .tallies) (n * rowPlaces + k) 0) 0)
 
   rest-at : rest ≡ true → (i c : ℕ) → n ≤ i → i < 8 → c < rowPlaces → getD (r .tallies) (i * rowPlaces + c) 0 ≡ 0
-  rest-at e i c n≤i i<8 c<rowPlaces =
+  rest-at e i c n≤i i<8 c<row =
       let at : i * rowPlaces + c ≡ n * rowPlaces + (i * rowPlaces + c - n * rowPlaces) = omega arith in
       ap (λ (q : ℕ). getD (r .tallies) q 0) at ∙ zero-at (tallyPlaces - n * rowPlaces) (λ k. getD (r .tallies) (n * rowPlaces + k) 0) e (i * rowPlaces + c - n * rowPlaces) (omega arith)
 

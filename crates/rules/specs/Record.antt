@@ -24,7 +24,10 @@ pub record Record : Type 0 where
 abbrev pub rowPlaces : ℕ
 rowPlaces = columns deskLimit
 
--- how many shares and tallies a record has
+-- where a row's tip gives start, and how many shares and tallies a record has
+abbrev pub tipsPlace : ℕ
+tipsPlace = 2 + deskLimit
+
 abbrev pub sharePlaces : ℕ
 sharePlaces = 2 * deskLimit
 

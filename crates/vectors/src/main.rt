@@ -6,6 +6,7 @@ use libc::STDOUT_FILENO;
 use pile::Amount;
 use pile::Outcome;
 use pile::Pile;
+use pile::TALLIES;
 ghost use Prim.Native.Nat.{_<_};
 
 pub(crate) fn text(s: &[u8]) {
@@ -94,7 +95,7 @@ fn unlawful() {
         floor: 4294967295,
         top: 4294967295,
         shares: [4294967295; 16],
-        tallies: [4294967295; 144],
+        tallies: [4294967295; TALLIES],
     };
     line(b"the largest numbers", most.tip(0, 1));
 }
@@ -103,7 +104,7 @@ fn unlawful() {
 fn with_tally(at: usize, tally: u32) -> Pile
     requires { ⌜ at < 144 ⌝ }
 {
-    let mut tallies = [0u32; 144];
+    let mut tallies = [0u32; TALLIES];
     tallies[at] = tally;
     Pile {
         n: 2,
