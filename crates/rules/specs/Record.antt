@@ -11,7 +11,7 @@ use Rattle.rules.specs.Refusals.{_when_, _orElse_, done, Reply, reply}
 use Rattle.rules.specs.Pile.{Side, draw, tip, bothSides, Pile, openingLawful, talliesLawful, lawful, sameOpening, rights, tonnage}
 use Rattle.rules.specs.Acts.{Kind, tally, actRefusal}
 use Rattle.rules.specs.Layout.{deskLimit, columns, actColumn, view, desks, piles, pileOf, bodyAt, bodyBytes}
-use Rattle.rules.specs.Book.{place, fetchAnswer}
+use Rattle.rules.specs.Book.{place, fetchAnswer, deskAnswer}
 
 -- The flat arrays: the share of side s and desk j stands at 8s + j; row i of the tallies at i * rowPlaces, its columns as in a body of 8 desks.
 pub record Record : Type 0 where
@@ -126,6 +126,13 @@ recordOf n p =
 -- fetching a pile: all zeros where it is refused
 unfoldable pub fetched : List ℕ → ℕ → Record
 fetched b number = done (fetchAnswer b number) (recordOf (desks b) (pileOf b (place b number))) zeroRecord
+
+-- what a desk's call finds of a pile: its record, all zeros where the call is refused, and where its body starts, at 0 then
+unfoldable pub deskRecord : ℕ → List ℕ → ℕ → Record
+deskRecord i b number = done (deskAnswer i b number) (recordOf (desks b) (pileOf b (place b number))) zeroRecord
+
+unfoldable pub deskStart : ℕ → List ℕ → ℕ → ℕ
+deskStart i b number = done (deskAnswer i b number) (bodyAt (desks b) (piles b) (place b number)) 0
 
 -- storing a pile: the book's own, 10, the record's own, then 30
 unfoldable pub storeAnswer : List ℕ → ℕ → Record → ℕ

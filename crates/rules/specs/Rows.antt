@@ -24,6 +24,13 @@ later m f g = atLeast m f g and not (alike m f g)
 unfoldable pub split : ℕ → (ℕ → ℕ) → (ℕ → ℕ) → Bool
 split m f g = not (alike m f g) and not (later m f g) and not (later m g f)
 
+-- What comparing two rows tells: they are alike, the first is later, the second is, or they are split.
+pub data Order : Type 0 where
+  same first second apart : Order
+
+unfoldable pub rowOrder : ℕ → (ℕ → ℕ) → (ℕ → ℕ) → Order
+rowOrder m f g = cond (alike m f g) same (cond (later m f g) first (cond (later m g f) second apart))
+
 -- the numbers of a row that stands in bytes, and how many they are
 abbrev pub numbersOf : List ℕ → ℕ → ℕ
 numbersOf row c = number 4 row (c * 4)
@@ -41,3 +48,8 @@ unfoldable pub laterRow : List ℕ → List ℕ → List ℕ
 laterRow a b =
     cond (not (isRowLength (length a)) or not (eqb (length a) (length b)) or split (places a) (numbersOf a) (numbersOf b)) []
     (cond (later (places a) (numbersOf b) (numbersOf a)) b a)
+
+-- is the second of two rows the one handed on: rows of one length of a row, the second later
+unfoldable pub secondHandedOn : List ℕ → List ℕ → Bool
+secondHandedOn a b =
+    isRowLength (length a) and eqb (length a) (length b) and later (places a) (numbersOf b) (numbersOf a)
