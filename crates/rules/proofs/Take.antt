@@ -3,3 +3,4 @@ pub mod Order
 pub mod RowBytes
 pub mod MergeRow
 pub mod Merge
+pub mod InPlace

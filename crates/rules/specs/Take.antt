@@ -28,11 +28,11 @@ sameBook own copy =
     and eqb (piles own) (piles copy)
     and every (piles own) (λ k. eqb (pileNumber own k) (pileNumber copy k) and sameOpening (desks own) (pileOf own k) (pileOf copy k))
 
--- "by pile, then by desk": 31, and at the taker's own desk d 32
-unfoldable pub rowAnswer : ℕ → ℕ → List ℕ → List ℕ → ℕ
-rowAnswer d i own copy =
+-- "by pile, then by desk": 31, and at the taker's own desk 32
+unfoldable pub rowAnswer : Bool → List ℕ → List ℕ → ℕ
+rowAnswer mine own copy =
     31 when split (places own) (numbersOf own) (numbersOf copy)
-    orElse 32 when (eqb i d and later (places own) (numbersOf copy) (numbersOf own))
+    orElse 32 when (mine and later (places own) (numbersOf copy) (numbersOf own))
 
 unfoldable pub takeAnswer : ℕ → List ℕ → List ℕ → ℕ
 takeAnswer d own copy =
@@ -40,7 +40,7 @@ takeAnswer d own copy =
     orElse ofCopy (bookAnswer copy)
     orElse 11 when not (ltb d (desks own))
     orElse 30 when not (sameBook own copy)
-    orElse first (piles own) (λ k. first (desks own) (λ i. rowAnswer d i (rowPart own k (suc i)) (rowPart copy k (suc i))))
+    orElse first (piles own) (λ k. first (desks own) (λ i. rowAnswer (eqb i d) (rowPart own k (suc i)) (rowPart copy k (suc i))))
 
 -- the taken book: for each pile and desk the later row, or the common row; all else is the taker's own
 unfoldable pub takenRow : List ℕ → List ℕ → ℕ → ℕ → List ℕ

@@ -105,3 +105,11 @@ module _ {A : Type 0} where
   pub list-add : (m m′ : ℕ) (f : ℕ → A) → list (m + m′) f ≡ list m f ++ list m′ (λ k. f (m + k))
   unfolding list
   list-add m m′ f = flat-add m m′ (λ k. f k ∷ [])
+
+  -- pieces of pieces, as one run of pieces
+  pub flat-flat : (p m : ℕ) (f : ℕ → List A) → flat (p * m) f ≡ flat p (λ k. flat m (λ r. f (k * m + r)))
+  unfolding flat
+  flat-flat zero m f = ap (λ (n : ℕ). flat n f) (zero-mul m)
+  flat-flat (suc p) m f =
+      ap (λ (n : ℕ). flat n f) (suc-mul p m) ∙ flat-add (p * m) m f
+      ∙ ap (λ (r : List A). r ++ flat m (λ r. f (p * m + r))) (flat-flat p m f)

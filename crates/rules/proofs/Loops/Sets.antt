@@ -1,14 +1,14 @@
 -- Writing into a list from a position on: what was written is there, and all beside it is as it was; pieces written one after the other.
 -- Assumes nothing.
 use Prim.Native.Nat.{ℕ, zero, suc, _+_, _*_, _≤_, _<_}
-use native.Mathlib.Nat.{le-refl, le-step, add-suc, suc-add, zero-add, add-zero, le-of-suc-le-suc, eq-or-lt-of-le, not-suc-le-zero}
+use native.Mathlib.Nat.{le-refl, le-of-eq, le-step, add-suc, suc-add, zero-add, add-zero, le-of-suc-le-suc, eq-or-lt-of-le, not-suc-le-zero}
 use native.Mathlib.Omega.{arith}
 use mathlib.Core.Path.{_≡_, refl, ap, ap₂, sym, _∙_}
 use mathlib.Core.Bool.{Bool, cond}
 use mathlib.Core.Logic.{_⊎_, inl, inr, ⊎-elim}
-use mathlib.Core.List.{List, [], _∷_, _++_}
-use lib.ListN.{length, getD, set, length-set}
-use lib.Seq.{sets, length-sets, getD-set-same, getD-set-other}
+use mathlib.Core.List.{List, [], _∷_, _++_, append-nil}
+use lib.ListN.{length, getD, take, drop, set, length-set}
+use lib.Seq.{sets, sets-eq, drop-length, length-sets, getD-set-same, getD-set-other}
 use lib.Dec.{eqb}
 use borrow.Author.Tests.{eq-eqb, ne-eqb}
 use Rattle.rules.specs.Loops.{flat}
@@ -98,3 +98,10 @@ sets-append b at (x ∷ v) w =
 
 pub sets-then : (b : List ℕ) (at : ℕ) (v : List ℕ) (to : ℕ) (w : List ℕ) → to ≡ at + length v → sets (sets b at v) to w ≡ sets b at (v ++ w)
 sets-then b at v to w e = rw e (sym (sets-append b at v w))
+
+-- what is written up to the end
+pub sets-to-end : (b : List ℕ) (at : ℕ) (v : List ℕ) → at + length v ≡ length b → sets b at v ≡ part 0 at b ++ v
+sets-to-end b at v e =
+    sets-eq v b at (le-of-eq e)
+    ∙ ap (λ (r : List ℕ). (take at b ++ v) ++ r) (ap (λ (k : ℕ). drop k b) e ∙ drop-length b)
+    ∙ append-nil (take at b ++ v)

@@ -66,7 +66,7 @@ module _ (n p : ℕ) (numbers : ℕ → ℕ) (frame : Frame n p numbers) (P Q R 
 
   -- no row is split, and at the taker's own desk the copy's is not later
   row-accepted : (d : ℕ) → ((k : ℕ) → k < p → RowLe n (Q k) (P k) d) → (k i : ℕ) → k < p → i < n
-      → rowAnswer d i (rowPart own k (suc i)) (rowPart copy k (suc i)) ≡ 0
+      → rowAnswer (eqb i d) (rowPart own k (suc i)) (rowPart copy k (suc i)) ≡ 0
   unfolding rowAnswer
   row-accepted d ahead k i k<p i<n =
       rw (row-part n p numbers P k (suc i) k<p (suc-le-suc i<n), row-part n p numbers Q k (suc i) k<p (suc-le-suc i<n))

@@ -29,6 +29,12 @@ module _ (n p : ℕ) (numbers : ℕ → ℕ) (P : ℕ → Pile) where
       (omega (arith, row-within n r r<n))
       ∙ part-flat (suc n) (rowLength n) (λ r. encode (bodyRow n (P k) r)) (λ r _. length-body-row n (P k) r) r r<n
 
+-- a row of a book has the length of one
+pub is-row-length : (n : ℕ) → 1 ≤ n → n ≤ deskLimit → isRowLength (rowLength n) ≡ true
+unfolding isRowLength rowLength
+is-row-length n l m =
+    some-at 8 (λ k. eqb (rowLength n) (rowLength (suc k))) (n - 1) (omega arith) (eq-eqb (8 * (n + 1)) (8 * (suc (n - 1) + 1)) (omega arith))
+
 -- the row of desk i by columns
 module _ (n : ℕ) (p : Pile) (i : ℕ) where
   abbrev pub row : List ℕ
@@ -47,7 +53,4 @@ module _ (n : ℕ) (p : Pile) (i : ℕ) where
   row-numbers f l c m = number-encode (bodyRow n p (suc i)) c (omega (arith, length-numbers n p (suc i))) (row-fits f l c m)
 
   pub row-is-row : 1 ≤ n → n ≤ deskLimit → isRowLength (length row) ≡ true
-  unfolding isRowLength rowLength
-  row-is-row l m =
-      some-at 8 (λ k. eqb (length row) (rowLength (suc k))) (n - 1) (omega arith)
-      (eq-eqb (length row) (8 * (suc (n - 1) + 1)) (omega (arith, length-body-row n p (suc i))))
+  row-is-row l m = ap isRowLength (length-body-row n p (suc i)) ∙ is-row-length n l m

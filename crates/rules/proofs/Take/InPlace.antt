@@ -1,0 +1,167 @@
+-- The taken book, written in place: over each row, in file order, the later of it and the copy's row. An opening's row is the same in both.
+-- Assumes nothing.
+use Prim.Native.Nat.{ℕ, zero, suc, _+_, _*_, _≤_, _<_}
+use native.Mathlib.Nat.{zero-lt-suc, le-of-suc-le-suc, add-zero, zero-mul, add-mul, mul-assoc}
+use native.Mathlib.Omega.{arith}
+use mathlib.Core.Path.{_≡_, ap, ap₂, sym, _∙_}
+use mathlib.Core.Bool.{Bool, true, false, cond, not}
+use mathlib.Core.List.{List, _++_}
+use lib.ListN.{length}
+use lib.Seq.{sets}
+use lib.Dec.{eqb}
+use Rattle.history.proofs.Sets.{cases}
+use Rattle.rules.specs.Loops.{flat, every}
+use Rattle.rules.specs.Numbers.{number, part}
+use Rattle.rules.specs.Pile.{sameOpening}
+use Rattle.rules.specs.Layout.{columns, rowLength, bodyLength, frontLength, bodyAt, bookLength, cellAt, column, view, desks, piles, pileOf}
+use Rattle.rules.specs.Rows.{alike, later, split, numbersOf, places, isRowLength}
+use Rattle.rules.specs.Take.{rowPart, takenRow, taken}
+use Rattle.rules.proofs.Loops.Logic.{same, and-left, and-right, and-right-fails}
+use Rattle.rules.proofs.Loops.Every.{every-at, every-cong}
+use Rattle.rules.proofs.Loops.Ranges.{piece-within}
+use Rattle.rules.proofs.Loops.Pieces.{flat-cong, length-flat, flat-flat}
+use Rattle.rules.proofs.Loops.Parts.{length-part}
+use Rattle.rules.proofs.Loops.Sets.{sets-to-end}
+use Rattle.rules.proofs.Bytes.Numbers.{number-part}
+use Rattle.rules.proofs.Pile.Facts.{both-at}
+use Rattle.rules.proofs.Pile.Agree.{same-opening}
+use Rattle.rules.proofs.File.Body.{by-column, column-below, row-length, body-rows, row-within}
+use Rattle.rules.proofs.File.Written.{body-within}
+use Rattle.rules.proofs.File.Readable.{BookFacts}
+use Rattle.rules.proofs.Take.Order.{alike-at, alike-all, later-row}
+use Rattle.rules.proofs.Take.RowBytes.{is-row-length}
+use borrow.Author.Tests.{eqb-true}
+
+-- two openings agree exactly where their rows are alike
+pub opening-alike : (n : ℕ) (cell cell′ : ℕ → ℕ → ℕ) → sameOpening n (view n cell) (view n cell′) ≡ alike (columns n) (cell 0) (cell′ 0)
+unfolding sameOpening
+opening-alike n cell cell′ =
+    same _ _
+    (λ e. alike-all (columns n) _ _ (by-column n (λ c. cell 0 c ≡ cell′ 0 c) (eqb-true _ _ (and-left _ _ e)) (eqb-true _ _ (and-left _ _ (and-right _ _ e)))
+    (λ s i l. eqb-true _ _ (both-at _ (every-at n _ (and-right _ _ (and-right _ _ e)) i l) s))))
+    (λ e. let at = alike-at (columns n) _ _ e in
+    same-opening n (view n cell) (view n cell′) (at 0 (omega arith)) (at 1 (omega arith)) (λ s i l. at (column n s i) (column-below n s i l)))
+
+-- a row of a readable book: it is there, and its numbers are the cells'
+module _ (b : List ℕ) (f : BookFacts b) (k r : ℕ) (k<p : k < piles b) (r<n : r < suc (desks b)) where
+  row-in : bodyAt (desks b) (piles b) k + cellAt (desks b) r 0 + rowLength (desks b) ≤ length b
+  unfolding cellAt
+  row-in = omega (arith, f .sized, body-within (desks b) (piles b) k k<p, row-within (desks b) r r<n)
+
+  pub row-long : length (rowPart b k r) ≡ rowLength (desks b)
+  unfolding rowPart
+  row-long = length-part _ _ b row-in
+
+  pub row-count : places (rowPart b k r) ≡ columns (desks b)
+  row-count = omega (arith, row-long, row-length (desks b))
+
+  pub row-cell : (c : ℕ) → c < columns (desks b) → numbersOf (rowPart b k r) c ≡ number 4 b (bodyAt (desks b) (piles b) k + cellAt (desks b) r c)
+  unfolding rowPart cellAt
+  row-cell c l =
+      number-part 4 b (bodyAt (desks b) (piles b) k + cellAt (desks b) r 0) (rowLength (desks b)) (c * 4) (omega (arith, row-length (desks b))) ∙ ap (number 4 b) (omega arith)
+
+-- the row that is handed on of two that are not split
+abbrev pub laterOf : List ℕ → List ℕ → List ℕ
+laterOf a b = cond (later (places a) (numbersOf b) (numbersOf a)) b a
+
+later-of-long : (a b : List ℕ) (ℓ : ℕ) → length a ≡ ℓ → length b ≡ ℓ → length (laterOf a b) ≡ ℓ
+later-of-long a b ℓ e d = cases (λ (l : List ℕ). length l ≡ ℓ) (later (places a) (numbersOf b) (numbersOf a)) (λ _. d) (λ _. e)
+
+-- of alike rows neither is later
+alike-not-later : (m : ℕ) (f g : ℕ → ℕ) → alike m f g ≡ true → later m g f ≡ false
+unfolding later
+alike-not-later m f g e = and-right-fails _ (ap not (alike-all m g f (λ c l. sym (alike-at m f g e c l))))
+
+-- two readable books of as many desks and piles
+module _ (own copy : List ℕ) (f : BookFacts own) (g : BookFacts copy) (same-n : desks own ≡ desks copy) (same-p : piles own ≡ piles copy) where
+  abbrev n : ℕ
+  n = desks own
+
+  abbrev p : ℕ
+  p = piles own
+
+  -- row r of body k starts at the same position in both
+  abbrev pub rowAt : ℕ → ℕ → ℕ
+  rowAt k r = bodyAt n p k + r * rowLength n
+
+  row-start : (k r : ℕ) → bodyAt n p k + cellAt n r 0 ≡ rowAt k r
+  unfolding cellAt
+  row-start k r = omega arith
+
+  pub own-row : (k r : ℕ) → rowPart own k r ≡ part (rowAt k r) (rowLength n) own
+  unfolding rowPart
+  own-row k r = ap (λ (at : ℕ). part at (rowLength n) own) (row-start k r)
+
+  pub copy-row : (k r : ℕ) → rowPart copy k r ≡ part (rowAt k r) (rowLength n) copy
+  unfolding rowPart
+  copy-row k r =
+      ap₂ (λ (n p : ℕ). part (bodyAt n p k + cellAt n r 0) (rowLength n) copy) (sym same-n) (sym same-p)
+      ∙ ap (λ (at : ℕ). part at (rowLength n) copy) (row-start k r)
+
+  copy-cell : (k r c : ℕ) → k < p → r < suc n → c < columns n → numbersOf (rowPart copy k r) c ≡ number 4 copy (bodyAt n p k + cellAt n r c)
+  copy-cell k r c k<p r<n c<w =
+      row-cell copy g k r (omega (arith, same-p)) (omega (arith, same-n)) c (omega (arith, same-n))
+      ∙ ap₂ (λ (n p : ℕ). number 4 copy (bodyAt n p k + cellAt n r c)) (sym same-n) (sym same-p)
+
+  -- the openings of pile k agree exactly where its opening rows are alike
+  pub openings-test : (k : ℕ) → k < p
+      → sameOpening n (pileOf own k) (pileOf copy k) ≡ alike (places (rowPart own k 0)) (numbersOf (rowPart own k 0)) (numbersOf (rowPart copy k 0))
+  unfolding pileOf alike
+  openings-test k k<p =
+      ap (sameOpening n (pileOf own k)) (ap₂ (λ (n p : ℕ). view n (λ r c. number 4 copy (bodyAt n p k + cellAt n r c))) (sym same-n) (sym same-p))
+      ∙ opening-alike n (λ r c. number 4 own (bodyAt n p k + cellAt n r c)) (λ r c. number 4 copy (bodyAt n p k + cellAt n r c))
+      ∙ sym (ap (λ (m : ℕ). every m (λ c. eqb (numbersOf (rowPart own k 0) c) (numbersOf (rowPart copy k 0) c))) (row-count own f k 0 k<p (zero-lt-suc n))
+      ∙ every-cong (columns n) (λ c l. ap₂ eqb (row-cell own f k 0 k<p (zero-lt-suc n) c l) (copy-cell k 0 c k<p (zero-lt-suc n) l)))
+
+  -- rows in file order: row r of body k is row k(n + 1) + r behind the front
+  row-in-order : (k r : ℕ) → frontLength p + (k * suc n + r) * rowLength n ≡ rowAt k r
+  unfolding bodyAt
+  row-in-order k r =
+      omega (arith, add-mul (k * suc n) r (rowLength n), mul-assoc k (suc n) (rowLength n) ∙ ap (λ (x : ℕ). k * x) (body-rows n))
+
+  rows-end : frontLength p + p * suc n * rowLength n ≡ length own
+  unfolding bookLength bodyAt
+  rows-end = omega (arith, f .sized, mul-assoc p (suc n) (rowLength n) ∙ ap (λ (x : ℕ). p * x) (body-rows n))
+
+  copy-long : length copy ≡ length own
+  copy-long = g .sized ∙ sym (ap₂ bookLength same-n same-p) ∙ sym (f .sized)
+
+  -- what is written over row r, in file order
+  abbrev pub piece : ℕ → List ℕ
+  piece r = laterOf (part (frontLength p + r * rowLength n) (rowLength n) own) (part (frontLength p + r * rowLength n) (rowLength n) copy)
+
+  pub row-within-both : (r : ℕ) → r < p * suc n → frontLength p + r * rowLength n + rowLength n ≤ length own
+  row-within-both r l = omega (arith, rows-end, piece-within (rowLength n) l)
+
+  pub piece-long : (r : ℕ) → r < p * suc n → length (piece r) ≡ rowLength n
+  piece-long r l =
+      let at = frontLength p + r * rowLength n in
+      later-of-long (part at (rowLength n) own) (part at (rowLength n) copy) (rowLength n) (length-part at (rowLength n) own (row-within-both r l))
+      (length-part at (rowLength n) copy (omega (arith, copy-long, row-within-both r l)))
+
+  module _ (openings : (k : ℕ) → k < p → alike (places (rowPart own k 0)) (numbersOf (rowPart own k 0)) (numbersOf (rowPart copy k 0)) ≡ true)
+      (whole : (k i : ℕ) → k < p → i < n
+      → split (places (rowPart own k (suc i))) (numbersOf (rowPart own k (suc i))) (numbersOf (rowPart copy k (suc i))) ≡ false) where
+    row-taken : (k r : ℕ) → k < p → r < suc n → laterOf (rowPart own k r) (rowPart copy k r) ≡ takenRow own copy k r
+    unfolding takenRow
+    row-taken k zero k<p l =
+        ap (λ (b : Bool). cond b (rowPart copy k 0) (rowPart own k 0)) (alike-not-later _ _ _ (openings k k<p))
+    row-taken k (suc i) k<p l =
+        let long = row-long own f k (suc i) k<p l in
+        sym (later-row _ _ (ap isRowLength long ∙ is-row-length n (f .sizes .desks-least) (f .sizes .desks-most))
+        (long ∙ sym (row-long copy g k (suc i) (omega (arith, same-p)) (omega (arith, same-n)) ∙ ap rowLength (sym same-n)))
+        (whole k i k<p (le-of-suc-le-suc l)))
+
+    piece-taken : (k r : ℕ) → k < p → r < suc n → piece (k * suc n + r) ≡ takenRow own copy k r
+    piece-taken k r k<p l =
+        ap (λ (at : ℕ). laterOf (part at (rowLength n) own) (part at (rowLength n) copy)) (row-in-order k r)
+        ∙ ap₂ laterOf (sym (own-row k r)) (sym (copy-row k r))
+        ∙ row-taken k r k<p l
+
+    pub taken-in-place : sets own (frontLength p) (flat (p * suc n) piece) ≡ taken own copy
+    unfolding taken bodyAt
+    taken-in-place =
+        sets-to-end own (frontLength p) (flat (p * suc n) piece)
+        (omega (arith, rows-end, length-flat (p * suc n) (rowLength n) piece piece-long))
+        ∙ ap₂ (λ (m : ℕ) (r : List ℕ). part 0 m own ++ r) (sym (ap (λ (x : ℕ). frontLength p + x) (zero-mul (bodyLength n)) ∙ add-zero (frontLength p)))
+        (flat-flat p (suc n) piece ∙ flat-cong p (λ k k<p. flat-cong (suc n) (λ r l. piece-taken k r k<p l)))
