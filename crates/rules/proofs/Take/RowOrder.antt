@@ -1,0 +1,84 @@
+-- What comparing two rows tells follows from two tests: is the first at least the second at every place, and the second the first.
+-- Assumes nothing.
+use Prim.Native.Nat.{ℕ, _+_, _≤_, _<_}
+use native.Mathlib.Nat.{le-of-eq, le-antisymm}
+use native.Mathlib.Numerals.{add-one}
+use native.Mathlib.Omega.{arith}
+use mathlib.Core.Path.{_≡_, refl, ap, sym, _∙_}
+use mathlib.Core.Bool.{Bool, true, false, cond, not}
+use lib.Dec.{leb}
+use borrow.Author.Tests.{le-leb, lt-leb}
+use Rattle.rules.specs.Loops.{_and_, every}
+use Rattle.rules.specs.Rows.{atLeast, alike, later, split, Order, same, first, second, apart, rowOrder}
+use Rattle.rules.proofs.Loops.Logic as logic
+use Rattle.rules.proofs.Loops.Logic.{and-left, and-right, and-both, and-true, and-right-fails}
+use Rattle.rules.proofs.Take.Order.{at-least-at, at-least-all, alike-at, alike-all}
+
+-- The product order: at least each other the rows are alike; one way only, that one is later; neither way they are split, a fork.
+abbrev pub orderBy : Bool → Bool → Order
+orderBy above below = cond above (cond below same first) (cond below second apart)
+
+-- does the result say that the rows are split; that the second is later
+abbrev pub isApart : Order → Bool
+isApart same = false
+isApart first = false
+isApart second = false
+isApart apart = true
+
+abbrev pub isSecond : Order → Bool
+isSecond same = false
+isSecond first = false
+isSecond second = true
+isSecond apart = false
+
+-- one place more, as a program's loop counts
+at-least-next : (k : ℕ) (f g : ℕ → ℕ) → atLeast (k + 1) f g ≡ atLeast k f g and leb (g k) (f k)
+unfolding atLeast every
+at-least-next k f g = rw (add-one k)
+
+-- and with the numbers x and y that stand there: the first row is below the second, or at least it.
+module _ (k : ℕ) (f g : ℕ → ℕ) {x y : ℕ} (x-is : x ≡ f k) (y-is : y ≡ g k) where
+  pub at-least-fails : x < y → atLeast (k + 1) f g ≡ false
+  at-least-fails l = at-least-next k f g ∙ and-right-fails _ (lt-leb (g k) (f k) (omega arith))
+
+  pub at-least-stays : y ≤ x → atLeast (k + 1) f g ≡ atLeast k f g
+  at-least-stays l = at-least-next k f g ∙ rw (le-leb (g k) (f k) (omega arith)) (and-true _)
+
+-- the product order is antisymmetric
+pub alike-both : (m : ℕ) (f g : ℕ → ℕ) → alike m f g ≡ atLeast m f g and atLeast m g f
+alike-both m f g =
+    logic.same _ _
+    (λ e. and-both (at-least-all m f g (λ c l. le-of-eq (sym (alike-at m f g e c l)))) (at-least-all m g f (λ c l. le-of-eq (alike-at m f g e c l))))
+    (λ e. alike-all m f g (λ c l. le-antisymm (at-least-at m g f (and-right _ _ e) c l) (at-least-at m f g (and-left _ _ e) c l)))
+
+module _ (m : ℕ) (f g : ℕ → ℕ) where
+  pub row-order : rowOrder m f g ≡ orderBy (atLeast m f g) (atLeast m g f)
+  unfolding rowOrder later _and_
+  row-order = rw (alike-both m f g, alike-both m g f) (go (atLeast m f g) (atLeast m g f))
+    where
+      go : (x y : Bool) → cond (x and y) same (cond (x and not (x and y)) first (cond (y and not (y and x)) second apart)) ≡ orderBy x y
+      go true true = refl
+      go true false = refl
+      go false true = refl
+      go false false = refl
+
+  -- split exactly where the result is `apart`, and the second later exactly where it is `second`
+  pub split-told : {o : Order} → rowOrder m f g ≡ o → split m f g ≡ isApart o
+  unfolding rowOrder split _and_
+  split-told e = go (alike m f g) (later m f g) (later m g f) ∙ ap isApart e
+    where
+      go : (a l k : Bool) → not a and not l and not k ≡ isApart (cond a same (cond l first (cond k second apart)))
+      go true l k = refl
+      go false true k = refl
+      go false false true = refl
+      go false false false = refl
+
+  pub second-told : {o : Order} → rowOrder m f g ≡ o → later m g f ≡ isSecond o
+  unfolding later _and_
+  second-told e = rw (alike-both m g f) (go (atLeast m f g) (atLeast m g f)) ∙ ap isSecond (sym row-order ∙ e)
+    where
+      go : (x y : Bool) → y and not (y and x) ≡ isSecond (orderBy x y)
+      go true true = refl
+      go true false = refl
+      go false true = refl
+      go false false = refl
