@@ -42,12 +42,16 @@ places row = length row / 4
 unfoldable pub isRowLength : ℕ → Bool
 isRowLength ℓ = some 8 (λ k. eqb ℓ (rowLength (suc k)))
 
+-- the later of two rows that are not split, or the common one
+abbrev pub laterOf : List ℕ → List ℕ → List ℕ
+laterOf a b = cond (later (places a) (numbersOf b) (numbersOf a)) b a
+
 -- The later of two rows, handed on as a part of whichever book has it; of two alike rows the first. It is empty where the rows
 -- differ in length, have the length of no row, or are split.
 unfoldable pub laterRow : List ℕ → List ℕ → List ℕ
 laterRow a b =
     cond (not (isRowLength (length a)) or not (eqb (length a) (length b)) or split (places a) (numbersOf a) (numbersOf b)) []
-    (cond (later (places a) (numbersOf b) (numbersOf a)) b a)
+    (laterOf a b)
 
 -- is the second of two rows the one handed on: rows of one length of a row, the second later
 unfoldable pub secondHandedOn : List ℕ → List ℕ → Bool

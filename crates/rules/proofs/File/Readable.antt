@@ -7,6 +7,7 @@ use mathlib.Core.Path.{_≡_, refl}
 use mathlib.Core.Bool.{true}
 use mathlib.Core.List.{List}
 use lib.ListN.{length, getD}
+use lib.Dec.{lit≤}
 use borrow.Author.Tests.{ltb-false, eqb-true, le-leb, le-ltb, eq-eqb}
 use Rattle.rules.specs.Loops.{between}
 use Rattle.rules.specs.Refusals.{_when_, _orElse_}
@@ -16,7 +17,7 @@ use Rattle.rules.specs.Opening.{rising}
 use Rattle.rules.specs.Book.{headSound, contentsSound, bookAnswer}
 use Rattle.rules.proofs.Loops.Logic.{in-range, and-left, and-right, and-both}
 use Rattle.rules.proofs.Loops.Every.{every-at, every-all}
-use Rattle.rules.proofs.Loops.Refusals.{when-done, when-not-done, orElse-first, orElse-rest, first-at, first-none}
+use Rattle.rules.proofs.Loops.Refusals.{when-most, orElse-most, first-most, when-done, when-not-done, orElse-first, orElse-rest, first-at, first-none}
 use Rattle.rules.proofs.Bytes.Numbers.{Octets}
 use Rattle.rules.proofs.Pile.Agree.{agree-refl}
 use Rattle.rules.proofs.File.Written.{write-book}
@@ -93,3 +94,14 @@ book-lengths b e =
     let f = book-facts b e in
     let l = lengths (desks b) (piles b) (f .sizes) in
     (omega (arith, f .sized, l .0), omega (arith, f .sized, l .1))
+
+-- a book's own refusals are 1 to 7
+pub book-answer-most : (b : List ℕ) → bookAnswer b ≤ 7
+unfolding bookAnswer pileAnswer
+book-answer-most b =
+    orElse-most _ _ (when-most 1 (lit≤ tt) _)
+    (orElse-most _ _ (when-most 2 (lit≤ tt) _)
+    (orElse-most _ _ (when-most 3 (lit≤ tt) _)
+    (orElse-most _ _ (when-most 4 (lit≤ tt) _)
+    (first-most (piles b) _ (λ k. orElse-most _ _ (when-most 5 (lit≤ tt) _)
+    (orElse-most _ _ (when-most 6 (lit≤ tt) _) (when-most 7 (lit≤ tt) _)))))))

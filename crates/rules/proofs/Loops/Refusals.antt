@@ -1,7 +1,8 @@
 -- Lines of a table of refusals: what an answer tells of each line, what it is where none is met, and what a call then leaves.
 -- Assumes nothing.
-use Prim.Native.Nat.{ℕ, zero, suc, _+_, _<_}
+use Prim.Native.Nat.{ℕ, zero, suc, _+_, _≤_, _<_}
 use native.Mathlib.Nat.{le-refl, le-step, not-suc-le-zero, le-of-suc-le-suc, eq-or-lt-of-le, suc-ne-zero}
+use native.Mathlib.Omega.{arith}
 use native.Mathlib.Numerals.{add-one}
 use mathlib.Core.Path.{_≡_, refl, ap, ap₂, sym, _∙_}
 use mathlib.Core.Logic.{⊎-elim, _≢_}
@@ -75,6 +76,27 @@ first-stops (suc n) f k l e d =
     ⊎-elim (λ q. orElse-passes (ap (λ (j : ℕ). first j f) (sym q) ∙ e) (f n) ∙ ap f (sym q))
     (λ m. let own = first-stops n f k m e d in orElse-stands (first n f) (f n) (λ z. d (sym own ∙ z)) ∙ own)
     (eq-or-lt-of-le (le-of-suc-le-suc l))
+
+pub first-cong : (n : ℕ) {f g : ℕ → ℕ} → ((k : ℕ) → k < n → f k ≡ g k) → first n f ≡ first n g
+unfolding first
+first-cong zero h = refl
+first-cong (suc n) h = ap₂ _orElse_ (first-cong n (λ k l. h k (le-step l))) (h n (le-refl (suc n)))
+
+-- no answer is above the highest number of its lines
+pub when-most : {most : ℕ} (number : ℕ) → number ≤ most → (c : Bool) → (number when c) ≤ most
+unfolding _when_
+when-most number l true = l
+when-most number l false = omega arith
+
+pub orElse-most : {most : ℕ} (a b : ℕ) → a ≤ most → b ≤ most → (a orElse b) ≤ most
+unfolding _orElse_
+orElse-most zero b l m = m
+orElse-most (suc a) b l m = l
+
+pub first-most : {most : ℕ} (n : ℕ) (f : ℕ → ℕ) → ((k : ℕ) → f k ≤ most) → first n f ≤ most
+unfolding first
+first-most zero f h = omega arith
+first-most (suc n) f h = orElse-most (first n f) (f n) (first-most n f h) (h n)
 
 -- what a call leaves where it is answered 0, and where it is refused
 pub when-accepted : {A : Type 0} (answer : ℕ) (after before : A) → answer ≡ 0 → done answer after before ≡ after

@@ -3,21 +3,24 @@
 use Prim.Native.Nat.{ℕ, zero, suc, _+_, _*_, _≤_, _<_}
 use native.Mathlib.Nat.{zero-lt-suc, le-of-suc-le-suc, add-zero, zero-mul, add-mul, mul-assoc}
 use native.Mathlib.Omega.{arith}
-use mathlib.Core.Path.{_≡_, ap, ap₂, sym, _∙_}
+use mathlib.Core.Path.{_≡_, refl, ap, ap₂, sym, _∙_}
 use mathlib.Core.Bool.{Bool, true, false, cond, not}
 use mathlib.Core.List.{List, _++_}
 use lib.ListN.{length}
 use lib.Seq.{sets}
 use lib.Dec.{eqb}
 use Rattle.history.proofs.Sets.{cases}
-use Rattle.rules.specs.Loops.{flat, every}
+use Rattle.rules.specs.Loops.{_and_, flat, every}
 use Rattle.rules.specs.Numbers.{number, part}
 use Rattle.rules.specs.Pile.{sameOpening}
-use Rattle.rules.specs.Layout.{columns, rowLength, bodyLength, frontLength, bodyAt, bookLength, cellAt, column, view, desks, piles, pileOf}
-use Rattle.rules.specs.Rows.{alike, later, split, numbersOf, places, isRowLength}
-use Rattle.rules.specs.Take.{rowPart, takenRow, taken}
-use Rattle.rules.proofs.Loops.Logic.{same, and-left, and-right, and-right-fails}
+use Rattle.rules.specs.Layout.{columns, rowLength, bodyLength, frontLength, bodyAt, bookLength, cellAt, column, view, desks, piles, pileNumber, pileOf}
+use Rattle.rules.specs.Refusals.{first}
+use Rattle.rules.specs.Rows.{alike, later, split, numbersOf, places, laterOf, isRowLength}
+use Rattle.rules.specs.Book.{bookAnswer}
+use Rattle.rules.specs.Take.{rowPart, ofCopy, sameBook, rowAnswer, takeAnswer, takenRow, taken, afterTake}
+use Rattle.rules.proofs.Loops.Logic.{same, and-left, and-right, and-left-holds, and-right-fails}
 use Rattle.rules.proofs.Loops.Every.{every-at, every-cong}
+use Rattle.rules.proofs.Loops.Refusals.{when-done, when-not-done, orElse-first, orElse-rest, first-at, first-cong, when-accepted}
 use Rattle.rules.proofs.Loops.Ranges.{piece-within}
 use Rattle.rules.proofs.Loops.Pieces.{flat-cong, length-flat, flat-flat}
 use Rattle.rules.proofs.Loops.Parts.{length-part}
@@ -27,10 +30,10 @@ use Rattle.rules.proofs.Pile.Facts.{both-at}
 use Rattle.rules.proofs.Pile.Agree.{same-opening}
 use Rattle.rules.proofs.File.Body.{by-column, column-below, row-length, body-rows, row-within}
 use Rattle.rules.proofs.File.Written.{body-within}
-use Rattle.rules.proofs.File.Readable.{BookFacts}
+use Rattle.rules.proofs.File.Readable.{BookFacts, book-facts}
 use Rattle.rules.proofs.Take.Order.{alike-at, alike-all, later-row}
 use Rattle.rules.proofs.Take.RowBytes.{is-row-length}
-use borrow.Author.Tests.{eqb-true}
+use borrow.Author.Tests.{eqb-true, eq-eqb}
 
 -- two openings agree exactly where their rows are alike
 pub opening-alike : (n : ℕ) (cell cell′ : ℕ → ℕ → ℕ) → sameOpening n (view n cell) (view n cell′) ≡ alike (columns n) (cell 0) (cell′ 0)
@@ -60,10 +63,7 @@ module _ (b : List ℕ) (f : BookFacts b) (k r : ℕ) (k<p : k < piles b) (r<n :
   row-cell c l =
       number-part 4 b (bodyAt (desks b) (piles b) k + cellAt (desks b) r 0) (rowLength (desks b)) (c * 4) (omega (arith, row-length (desks b))) ∙ ap (number 4 b) (omega arith)
 
--- the row that is handed on of two that are not split
-abbrev pub laterOf : List ℕ → List ℕ → List ℕ
-laterOf a b = cond (later (places a) (numbersOf b) (numbersOf a)) b a
-
+-- the row that is handed on
 later-of-long : (a b : List ℕ) (ℓ : ℕ) → length a ≡ ℓ → length b ≡ ℓ → length (laterOf a b) ≡ ℓ
 later-of-long a b ℓ e d = cases (λ (l : List ℕ). length l ≡ ℓ) (later (places a) (numbersOf b) (numbersOf a)) (λ _. d) (λ _. e)
 
@@ -112,6 +112,23 @@ module _ (own copy : List ℕ) (f : BookFacts own) (g : BookFacts copy) (same-n 
       ∙ opening-alike n (λ r c. number 4 own (bodyAt n p k + cellAt n r c)) (λ r c. number 4 copy (bodyAt n p k + cellAt n r c))
       ∙ sym (ap (λ (m : ℕ). every m (λ c. eqb (numbersOf (rowPart own k 0) c) (numbersOf (rowPart copy k 0) c))) (row-count own f k 0 k<p (zero-lt-suc n))
       ∙ every-cong (columns n) (λ c l. ap₂ eqb (row-cell own f k 0 k<p (zero-lt-suc n) c l) (copy-cell k 0 c k<p (zero-lt-suc n) l)))
+
+  -- the tests of a take, on rows found by their position
+  pub same-piles-test : every p (λ k. eqb (pileNumber own k) (pileNumber copy k)
+      and alike (places (part (rowAt k 0) (rowLength n) own)) (numbersOf (part (rowAt k 0) (rowLength n) own)) (numbersOf (part (rowAt k 0) (rowLength n) copy)))
+      ≡ sameBook own copy
+  unfolding sameBook
+  same-piles-test =
+      every-cong p (λ k k<p. ap (λ (b : Bool). eqb (pileNumber own k) (pileNumber copy k) and b)
+      (ap₂ (λ (a b : List ℕ). alike (places a) (numbersOf a) (numbersOf b)) (sym (own-row k 0)) (sym (copy-row k 0)) ∙ sym (openings-test k k<p)))
+      ∙ and-left-holds (eq-eqb p (piles copy) same-p) _
+      ∙ and-left-holds (eq-eqb n (desks copy) same-n) _
+
+  pub rows-test : (d : ℕ)
+      → first p (λ k. first n (λ i. rowAnswer (eqb i d) (part (rowAt k (suc i)) (rowLength n) own) (part (rowAt k (suc i)) (rowLength n) copy)))
+      ≡ first p (λ k. first n (λ i. rowAnswer (eqb i d) (rowPart own k (suc i)) (rowPart copy k (suc i))))
+  rows-test d =
+      first-cong p (λ k _. first-cong n (λ i _. ap₂ (rowAnswer (eqb i d)) (sym (own-row k (suc i))) (sym (copy-row k (suc i)))))
 
   -- rows in file order: row r of body k is row k(n + 1) + r behind the front
   row-in-order : (k r : ℕ) → frontLength p + (k * suc n + r) * rowLength n ≡ rowAt k r
@@ -165,3 +182,50 @@ module _ (own copy : List ℕ) (f : BookFacts own) (g : BookFacts copy) (same-n 
         (omega (arith, rows-end, length-flat (p * suc n) (rowLength n) piece piece-long))
         ∙ ap₂ (λ (m : ℕ) (r : List ℕ). part 0 m own ++ r) (sym (ap (λ (x : ℕ). frontLength p + x) (zero-mul (bodyLength n)) ∙ add-zero (frontLength p)))
         (flat-flat p (suc n) piece ∙ flat-cong p (λ k k<p. flat-cong (suc n) (λ r l. piece-taken k r k<p l)))
+
+-- what an accepted take tells, and the book that it leaves
+module _ (d : ℕ) (own copy : List ℕ) (accepted : takeAnswer d own copy ≡ 0) where
+  own-readable : bookAnswer own ≡ 0
+  unfolding takeAnswer
+  own-readable = orElse-first _ _ accepted
+
+  copy-readable : bookAnswer copy ≡ 0
+  unfolding takeAnswer
+  copy-readable = of-copy _ (orElse-first _ _ (orElse-rest _ _ accepted))
+    where
+      of-copy : (answer : ℕ) → ofCopy answer ≡ 0 → answer ≡ 0
+      of-copy zero e = refl
+      of-copy (suc answer) e = absurd (omega arith)
+
+  one-book : sameBook own copy ≡ true
+  unfolding takeAnswer
+  one-book = when-not-done _ _ (orElse-first _ _ (orElse-rest _ _ (orElse-rest _ _ (orElse-rest _ _ accepted))))
+
+  rows-pass : (k i : ℕ) → k < piles own → i < desks own → rowAnswer (eqb i d) (rowPart own k (suc i)) (rowPart copy k (suc i)) ≡ 0
+  unfolding takeAnswer
+  rows-pass k i k<p i<n =
+      first-at (desks own) _ (first-at (piles own) _ (orElse-rest _ _ (orElse-rest _ _ (orElse-rest _ _ (orElse-rest _ _ accepted)))) k k<p) i i<n
+
+  pub same-desks : desks own ≡ desks copy
+  unfolding sameBook
+  same-desks = eqb-true _ _ (and-left _ _ one-book)
+
+  pub same-count : piles own ≡ piles copy
+  unfolding sameBook
+  same-count = eqb-true _ _ (and-left _ _ (and-right _ _ one-book))
+
+  pub own-facts : BookFacts own
+  own-facts = book-facts own own-readable
+
+  pub copy-facts : BookFacts copy
+  copy-facts = book-facts copy copy-readable
+
+  pub after-take : sets own (frontLength (piles own)) (flat (piles own * suc (desks own)) (piece own copy own-facts copy-facts same-desks same-count))
+      ≡ afterTake d own copy
+  unfolding afterTake sameBook rowAnswer
+  after-take =
+      taken-in-place own copy own-facts copy-facts same-desks same-count
+      (λ k k<p. sym (openings-test own copy own-facts copy-facts same-desks same-count k k<p)
+      ∙ and-right _ _ (every-at (piles own) _ (and-right _ _ (and-right _ _ one-book)) k k<p))
+      (λ k i k<p i<n. when-done _ _ (orElse-first _ _ (rows-pass k i k<p i<n)))
+      ∙ sym (when-accepted _ _ _ accepted)

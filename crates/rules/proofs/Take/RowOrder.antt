@@ -31,6 +31,12 @@ isSecond first = false
 isSecond second = true
 isSecond apart = false
 
+abbrev pub isSame : Order → Bool
+isSame same = true
+isSame first = false
+isSame second = false
+isSame apart = false
+
 -- one place more, as a program's loop counts
 at-least-next : (k : ℕ) (f g : ℕ → ℕ) → atLeast (k + 1) f g ≡ atLeast k f g and leb (g k) (f k)
 unfolding atLeast every
@@ -82,3 +88,13 @@ module _ (m : ℕ) (f g : ℕ → ℕ) where
       go true false = refl
       go false true = refl
       go false false = refl
+
+  pub alike-told : {o : Order} → rowOrder m f g ≡ o → alike m f g ≡ isSame o
+  unfolding rowOrder
+  alike-told e = go (alike m f g) (later m f g) (later m g f) ∙ ap isSame e
+    where
+      go : (a l k : Bool) → a ≡ isSame (cond a same (cond l first (cond k second apart)))
+      go true l k = refl
+      go false true k = refl
+      go false false true = refl
+      go false false false = refl
