@@ -21,6 +21,7 @@ pub fn compare(a: &[u8], b: &[u8]) -> Order
     ensures { λ r. ⌜ asOrder r ≡ rowOrder (places (now (a .entry))) (numbersOf (now (a .entry))) (numbersOf (now (b .entry))) ⌝ }
 {
     let places = a.len() / 4;
+    // Each row has been at least the other at every place so far.
     let mut first = true;
     let mut second = true;
     let mut c = 0;
@@ -70,6 +71,7 @@ pub fn later_row<'a>(a: &'a [u8], b: &'a [u8]) -> &'a [u8]
         return &a[0..0];
     }
     match compare(a, b) {
+        // Of two alike rows the first is handed on.
         Order::Alike => a,
         Order::First => a,
         Order::Second => b,
