@@ -16,7 +16,7 @@ use Rattle.rules.proofs.Bytes.Numbers.{length-bytes}
 use Rattle.rules.proofs.File.Body.{body-cong}
 use Rattle.rules.proofs.File.Written.{length-contents}
 use Rattle.rules.proofs.Record.RecordOf.{record-agrees}
-use Rattle.book.proofs.Saved.{put-fits}
+use Rattle.rules.proofs.Bytes.Put.{put-fits}
 use Rattle.rules.proofs.Loops.Sets.{sets-then}
 
 abbrev pub body : ℕ → List ℕ → ℕ → List ℕ

@@ -26,20 +26,20 @@ module _ {b : List ℕ} {at m : ℕ} {piece : ℕ → List ℕ} where
   all-written {k} w h = let done : k ≡ m = omega arith in rw done at (w .is)
 
   -- one piece more, behind those before it
-  pub next-written : (ℓ : ℕ) → ((j : ℕ) → length (piece j) ≡ ℓ) → {k to : ℕ} {l after : List ℕ} → Written b at m piece k l → k < m
+  pub next-written : (ℓ : ℕ) → ((j : ℕ) → j < m → length (piece j) ≡ ℓ) → {k to : ℕ} {l after : List ℕ} → Written b at m piece k l → k < m
       → to ≡ at + k * ℓ → after ≡ sets l to (piece k) → Written b at m piece (k + 1) after
   unfolding flat
   next-written ℓ sized {k} w k<m behind put =
       record {
         counted = omega arith;
         long = rw (put, length-sets) (w .long);
-        is = put ∙ rw (w .is, add-one k) (sets-then b at (flat k piece) _ (piece k) (omega (arith, length-flat k ℓ piece (λ j _. sized j))));
+        is = put ∙ rw (w .is, add-one k) (sets-then b at (flat k piece) _ (piece k) (omega (arith, length-flat k ℓ piece (λ j l. sized j (omega arith)))));
       }
 
 -- pieces of one number
 module _ {b : List ℕ} {at m : ℕ} {f : ℕ → ℕ} where
   pub next-number : {k : ℕ} {l : List ℕ} → Written b at m (λ j. f j ∷ []) k l → k < m → Written b at m (λ j. f j ∷ []) (k + 1) (set l (at + k) (f k))
-  next-number w k<m = next-written 1 (λ j. refl) w k<m (omega arith) refl
+  next-number w k<m = next-written 1 (λ j _. refl) w k<m (omega arith) refl
 
   pub all-numbers : {k : ℕ} {l : List ℕ} → Written b at m (λ j. f j ∷ []) k l → m ≤ k → l ≡ sets b at (list m f)
   unfolding list

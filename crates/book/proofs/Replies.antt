@@ -1,42 +1,70 @@
--- What the queries of a book reply, from the answer that found the pile and from the record at its place.
+-- What a call for a pile of a book hands back, from the answer that found the pile, its place and its record.
 -- Assumes nothing.
 use Prim.Native.Nat.{ℕ, _<_}
-use mathlib.Core.Path.{_≡_, sym, subst⁻¹, _∙_}
+use mathlib.Core.Path.{_≡_, ap, sym, subst⁻¹, _∙_}
 use mathlib.Core.Logic.{_≢_}
 use mathlib.Core.List.{List, []}
 use Rattle.rules.specs.Refusals.{refused, reply}
 use Rattle.rules.specs.Numbers.{part}
 use Rattle.rules.specs.Pile.{Side}
-use Rattle.rules.specs.Layout.{bodyLength, desks, piles, position, pileOf}
-use Rattle.rules.specs.Book.{place, fetchAnswer, deskAnswer, bodyPart, bodyStart, tonnageReply, rightsReply}
-use Rattle.rules.specs.Record.{Record, zeroRecord, recordOf, recordTonnageReply, recordRightsReply, fetched}
+use Rattle.rules.specs.Layout.{bodyLength, bodyAt, desks, piles, position, pileOf}
+use Rattle.rules.specs.Book.{bookAnswer, place, fetchAnswer, deskAnswer, bodyPart, bodyStart, tonnageReply, rightsReply}
+use Rattle.rules.specs.Record.{Record, zeroRecord, recordOf, recordTonnageReply, recordRightsReply, fetched, deskRecord, deskStart}
 use Rattle.rules.proofs.Loops.Refusals.{when-accepted, when-refused, reply-refused}
 use Rattle.rules.proofs.File.Found.{found-readable, found-desk, found-place, desk-0-fetch}
-use Rattle.rules.proofs.File.Refused.{fetch-refused, body-refused}
-use Rattle.rules.proofs.Record.OfBody.{body-tonnage, body-rights}
-use Rattle.book.specs.Within.{HasPlace}
+use Rattle.rules.proofs.File.Refused.{body-refused}
+use Rattle.rules.proofs.Record.OfBody.{body-tonnage, body-rights, found-record, found-start}
+
+-- a readable book that has a pile at place k
+pub record HasPlace (b : List ℕ) (k : ℕ) : Type 0 where
+  pub readable : bookAnswer b ≡ 0
+  pub below : k < piles b
 
 module _ (i : ℕ) (b : List ℕ) (number : ℕ) {m : ℕ} (answer : m ≡ deskAnswer i b number) where
   -- the pile was not found
   module _ (d : m ≢ 0) where
+    not-found : deskAnswer i b number ≢ 0
+    not-found z = d (answer ∙ z)
+
+    pub start-nowhere : 0 ≡ deskStart i b number
+    unfolding deskStart
+    start-nowhere = sym (when-refused _ _ _ not-found)
+
+    pub record-zero : zeroRecord ≡ deskRecord i b number
+    unfolding deskRecord
+    record-zero = sym (when-refused _ _ _ not-found)
+
     pub rights-refused : (s : Side) → refused m ≡ rightsReply s i b number
     unfolding rightsReply
     rights-refused s = rw (← answer) (reply-refused m _ d)
 
-  -- the pile was found, at place k
-  module _ (z : m ≡ 0) {k : ℕ} (at : k ≡ place b number) where
+  -- the pile was found
+  module _ (z : m ≡ 0) where
     found : deskAnswer i b number ≡ 0
     found = sym answer ∙ z
 
-    pub has-place : HasPlace b k
-    has-place =
-        record { readable = found-readable i b number found; below = subst⁻¹ (λ (k : ℕ). k < piles b) at (found-place i b number found) }
-
-    pub rights-found : (s : Side) {r : Record} → r ≡ recordOf (desks b) (pileOf b k) → recordRightsReply s i r ≡ rightsReply s i b number
+    pub rights-found : (s : Side) {r : Record} → r ≡ deskRecord i b number → recordRightsReply s i r ≡ rightsReply s i b number
     unfolding rightsReply reply
     rights-found s is =
-        rw (is, at) (body-rights b (place b number) (found-readable i b number found) (found-place i b number found) s i (found-desk i b number found))
+        rw (is ∙ found-record i b number found) (body-rights b (place b number) (found-readable i b number found) (found-place i b number found) i (found-desk i b number found) s)
         ∙ sym (when-accepted _ _ _ found)
+
+    -- at place k
+    module _ {k : ℕ} (at : k ≡ place b number) where
+      pub has-place : HasPlace b k
+      has-place =
+          record { readable = found-readable i b number found; below = subst⁻¹ (λ (k : ℕ). k < piles b) at (found-place i b number found) }
+
+      pub start-at : {start : ℕ} → start ≡ bodyAt (desks b) (piles b) k → start ≡ deskStart i b number
+      start-at is = is ∙ ap (bodyAt (desks b) (piles b)) at ∙ sym (found-start i b number found)
+
+      pub record-at : {r : Record} → r ≡ recordOf (desks b) (pileOf b k) → r ≡ deskRecord i b number
+      record-at is = rw (is, at) (sym (found-record i b number found))
+
+module _ (b : List ℕ) (number : ℕ) where
+  pub fetched-is : deskRecord 0 b number ≡ fetched b number
+  unfolding deskRecord fetched
+  fetched-is = rw (desk-0-fetch b number)
 
 module _ (b : List ℕ) (number : ℕ) {m : ℕ} (answer : m ≡ deskAnswer 0 b number) where
   pub fetch-is : m ≡ fetchAnswer b number
@@ -45,9 +73,6 @@ module _ (b : List ℕ) (number : ℕ) {m : ℕ} (answer : m ≡ deskAnswer 0 b 
   module _ (d : m ≢ 0) where
     not-fetched : fetchAnswer b number ≢ 0
     not-fetched z = d (fetch-is ∙ z)
-
-    pub record-refused : zeroRecord ≡ fetched b number
-    record-refused = sym (fetch-refused b number not-fetched)
 
     pub part-refused : [] ≡ bodyPart b number
     part-refused = sym (body-refused b number not-fetched)
@@ -60,25 +85,22 @@ module _ (b : List ℕ) (number : ℕ) {m : ℕ} (answer : m ≡ deskAnswer 0 b 
     unfolding tonnageReply
     tonnage-refused = rw (← fetch-is) (reply-refused m _ d)
 
-  module _ (z : m ≡ 0) {k : ℕ} (at : k ≡ place b number) where
+  module _ (z : m ≡ 0) where
     fetchable : fetchAnswer b number ≡ 0
     fetchable = sym fetch-is ∙ z
 
-    pub record-found : {r : Record} → r ≡ recordOf (desks b) (pileOf b k) → r ≡ fetched b number
-    unfolding fetched
-    record-found is = rw (is, at) (sym (when-accepted _ _ _ fetchable))
-
-    pub part-found : {from size : ℕ} → from ≡ position b k → size ≡ bodyLength (desks b) → part from size b ≡ bodyPart b number
-    unfolding bodyPart
-    part-found from size = rw (from, size, at) (sym (when-accepted _ _ _ fetchable))
-
-    pub start-found : {from : ℕ} → from ≡ position b k → from ≡ bodyStart b number
-    unfolding bodyStart
-    start-found from = rw (from, at) (sym (when-accepted _ _ _ fetchable))
-
-    pub tonnage-found : {r : Record} → r ≡ recordOf (desks b) (pileOf b k) → recordTonnageReply r ≡ tonnageReply b number
+    pub tonnage-found : {r : Record} → r ≡ deskRecord 0 b number → recordTonnageReply r ≡ tonnageReply b number
     unfolding tonnageReply reply
     tonnage-found is =
         let e = sym answer ∙ z in
-        rw (is, at) (body-tonnage b (place b number) (found-readable 0 b number e) (found-place 0 b number e))
+        rw (is ∙ found-record 0 b number e) (body-tonnage b (place b number) (found-readable 0 b number e) (found-place 0 b number e))
         ∙ sym (when-accepted _ _ _ fetchable)
+
+    module _ {k : ℕ} (at : k ≡ place b number) where
+      pub part-found : {from size : ℕ} → from ≡ position b k → size ≡ bodyLength (desks b) → part from size b ≡ bodyPart b number
+      unfolding bodyPart
+      part-found from size = rw (from, size, at) (sym (when-accepted _ _ _ fetchable))
+
+      pub start-found : {from : ℕ} → from ≡ position b k → from ≡ bodyStart b number
+      unfolding bodyStart
+      start-found from = rw (from, at) (sym (when-accepted _ _ _ fetchable))

@@ -1,6 +1,6 @@
 -- What writing a number leaves, and writing the runs of numbers that make up a row of a body and a body.
 -- Assumes nothing.
-use Prim.Native.Nat.{ℕ, suc, _+_, _*_, _≤_}
+use Prim.Native.Nat.{ℕ, suc, _+_, _*_}
 use native.Mathlib.Nat.{zero-add}
 use native.Mathlib.Numerals.{one-add}
 use native.Mathlib.Omega.{arith}
@@ -8,21 +8,14 @@ use mathlib.Core.Path.{_≡_, ap, ap₂, sym, _∙_}
 use mathlib.Core.List.{List, [], _∷_, _++_}
 use lib.ListN.{length, getD, length-append}
 use lib.Seq.{sets, getD-append-add}
-use borrow.Author.Tests.{le-ltb}
 use Rattle.rules.specs.Loops.{flat, list}
-use Rattle.rules.specs.Numbers.{bytes, encode, putAnswer, afterPut}
+use Rattle.rules.specs.Numbers.{encode}
 use Rattle.rules.specs.Layout.{rowLength, bodyLength, rowOf, bodyRow, bodyBytes}
 use Rattle.rules.specs.Record.{Record, recordCell, recordView, rowPlaces, tipsPlace}
-use Rattle.rules.proofs.Loops.Refusals.{not-met, when-accepted}
 use Rattle.rules.proofs.Loops.Pieces.{flat-cong, flat-add, length-list, list-add, list-cong}
 use Rattle.rules.proofs.Bytes.Numbers.{encode-append, length-encode}
 use Rattle.rules.proofs.Loops.Sets.{sets-append, sets-then}
 use Rattle.rules.proofs.File.Body.{length-body-row}
-
--- a number that fits is written
-pub put-fits : (w : ℕ) (b : List ℕ) (at x : ℕ) → at + w ≤ length b → afterPut w b at x ≡ sets b at (bytes w x)
-unfolding afterPut putAnswer
-put-fits w b at x l = when-accepted _ _ _ (not-met 8 (le-ltb _ _ l))
 
 -- the first of some pieces apart
 flat-first : (m : ℕ) (f : ℕ → List ℕ) → flat (suc m) f ≡ f 0 ++ flat m (λ k. f (suc k))

@@ -1,11 +1,10 @@
--- What the functions that read and write a book ask of its bytes: that a part lies within them, or that they are a book.
+-- What the functions that read and write a book ask of its bytes: that a part lies within them, or that they have a book's size.
 -- Assumes nothing.
-use Prim.Native.Nat.{ℕ, _+_, _*_, _≤_, _<_}
+use Prim.Native.Nat.{ℕ, _+_, _*_, _≤_}
 use mathlib.Core.Path.{_≡_}
 use mathlib.Core.List.{List}
 use lib.ListN.{length}
-use Rattle.rules.specs.Layout.{deskLimit, pileLimit, Sizes, frontLength, rowLength, bodyLength, bookLength, piles}
-use Rattle.rules.specs.Book.{bookAnswer}
+use Rattle.rules.specs.Layout.{deskLimit, pileLimit, Sizes, frontLength, rowLength, bodyLength, bookLength}
 use Rattle.rules.specs.Record.{tallyPlaces}
 
 -- the head and the contents of p piles
@@ -28,8 +27,3 @@ pub record RowsWithin (n at : ℕ) (b tallies : List ℕ) : Type 0 where
 pub record BookSized (n p : ℕ) (b : List ℕ) : Type 0 where
   pub sizes : Sizes n p
   pub sized : length b ≡ bookLength n p
-
--- a readable book that has a pile at place k
-pub record HasPlace (b : List ℕ) (k : ℕ) : Type 0 where
-  pub readable : bookAnswer b ≡ 0
-  pub below : k < piles b

@@ -1,15 +1,8 @@
-// A pile of a book, by its number.
+// The place of a pile in a book, by its number.
 use crate::head::place_of;
-use crate::layout::body_at;
-use crate::load::load;
 use crate::readable::book_answer;
-use pile::Pile;
 ghost use mathlib.Core.Path.{_≡_};
-ghost use Rattle.rules.specs.Layout.{desks, pileOf};
 ghost use Rattle.rules.specs.Book.{deskAnswer, place};
-ghost use Rattle.rules.specs.Record.{recordOf};
-ghost use Rattle.pile.specs.View.{asRecord};
-ghost use Rattle.book.specs.Within.{HasPlace};
 
 // A refusal's number or 0, and where it is 0 the pile's place in the contents.
 pub(crate) struct Found {
@@ -47,14 +40,4 @@ pub(crate) fn find(book: &[u8], desk: u8, number: u16) -> Found
         answer: 0,
         place: k,
     }
-}
-
-// The record of the pile at a place.
-pub(crate) fn load_body(book: &[u8], k: usize) -> Pile
-    requires { ⌜ HasPlace (now book) k ⌝ }
-    ensures { λ r. ⌜ asRecord r ≡ recordOf (desks (now (book .entry))) (pileOf (now (book .entry)) k) ⌝ }
-{
-    let n = book[1];
-    let p = book[2] as usize;
-    load(book, n, body_at(n as usize, p, k))
 }

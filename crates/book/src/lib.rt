@@ -12,7 +12,6 @@ mod same;
 mod save;
 
 use find::find;
-use find::load_body;
 use front::put_bodies;
 use front::put_front;
 use layout::ENTRY;
@@ -20,6 +19,7 @@ use layout::POSITION;
 use layout::body_at;
 use layout::body_length;
 use layout::sizes_in_range;
+use load::load;
 use number::get4;
 use opening::opening_answer;
 use pile::Amount;
@@ -35,8 +35,8 @@ ghost use denote.Ref.{ptr};
 ghost use Rattle.rules.specs.Numbers.{partPlace};
 ghost use Rattle.rules.specs.Pile.{draw, tip};
 ghost use Rattle.rules.specs.Opening.{bufferLength, openingAnswer, afterOpening};
-ghost use Rattle.rules.specs.Book.{bookAnswer, fetchAnswer, bodyPart, bodyStart, tonnageReply, rightsReply};
-ghost use Rattle.rules.specs.Record.{fetched, storeAnswer, afterStore};
+ghost use Rattle.rules.specs.Book.{bookAnswer, fetchAnswer, deskAnswer, bodyPart, bodyStart, tonnageReply, rightsReply};
+ghost use Rattle.rules.specs.Record.{fetched, deskRecord, deskStart, storeAnswer, afterStore};
 ghost use Rattle.pile.specs.View.{asRecord};
 ghost use Rattle.pile.specs.Replies.{asReply};
 
@@ -87,24 +87,48 @@ pub fn body(book: &[u8], number: u16) -> &[u8]
     &book[at..at + size]
 }
 
+// What a desk's call needs of a pile: a refusal's number or 0, where the pile's body starts, and its record.
+pub struct Located {
+    pub answer: u8,
+    pub start: usize,
+    pub pile: Pile,
+}
+
+// The pile of a number, for a desk; refused with 1 to 7, 11 or 10, and then at 0 and all zeros. Every book has desk 0.
+pub fn locate(book: &[u8], desk: u8, number: u16) -> Located
+    ensures answer { λ r. ⌜ r .answer ≡ deskAnswer desk (now (book .entry)) number ⌝ }
+    ensures start { λ r. ⌜ r .start ≡ deskStart desk (now (book .entry)) number ⌝ }
+    ensures pile { λ r. ⌜ asRecord (r .pile) ≡ deskRecord desk (now (book .entry)) number ⌝ }
+{
+    let found = find(book, desk, number);
+    let refusal = found.answer;
+    if refusal != 0 {
+        return Located {
+            answer: refusal,
+            start: 0,
+            pile: Pile::zero(),
+        };
+    }
+    let k = found.place;
+    let n = book[1];
+    let p = book[2] as usize;
+    let start = body_at(n as usize, p, k);
+    Located {
+        answer: 0,
+        start,
+        pile: load(book, n, start),
+    }
+}
+
 // The pile of a number, as a record; refused with 1 to 7 or 10, and then all zeros.
 pub fn fetch(book: &[u8], number: u16) -> Outcome
     ensures answer { λ r. ⌜ r .answer ≡ fetchAnswer (now (book .entry)) number ⌝ }
     ensures pile { λ r. ⌜ asRecord (r .pile) ≡ fetched (now (book .entry)) number ⌝ }
 {
-    let found = find(book, 0, number);
-    let refusal = found.answer;
-    if refusal != 0 {
-        return Outcome {
-            answer: refusal,
-            pile: Pile::zero(),
-        };
-    }
-    let k = found.place;
-    Outcome {
-        answer: 0,
-        pile: load_body(book, k),
-    }
+    let found = locate(book, 0, number);
+    let answer = found.answer;
+    let pile = found.pile;
+    Outcome { answer, pile }
 }
 
 // Stores a record as the body of its pile; refused with 1 to 7 or 10 for the book, then 2, 5, 6 or 7 for the record, then 30 where n or opening differs.
@@ -112,7 +136,7 @@ pub fn store(book: &mut [u8], number: u16, pile: Pile) -> u8
     ensures answer { λ r. ⌜ r ≡ storeAnswer (now (book .entry)) number (asRecord pile) ⌝ }
     ensures book { λ r. ⌜ now (book .exit) ≡ afterStore (now (book .entry)) number (asRecord pile) ⌝ }
 {
-    let found = find(book, 0, number);
+    let found = locate(book, 0, number);
     let refusal = found.answer;
     if refusal != 0 {
         return refusal;
@@ -125,13 +149,12 @@ pub fn store(book: &mut [u8], number: u16, pile: Pile) -> u8
     if pile.n != n {
         return 30;
     }
-    let k = found.place;
-    let stored = load_body(book, k);
+    let stored = found.pile;
     if !same_opening(pile, stored, n as usize) {
         return 30;
     }
-    let p = book[2] as usize;
-    save(book, n as usize, body_at(n as usize, p, k), pile);
+    let start = found.start;
+    save(book, n as usize, start, pile);
     0
 }
 
@@ -139,13 +162,12 @@ pub fn store(book: &mut [u8], number: u16, pile: Pile) -> u8
 pub fn tonnage(book: &[u8], number: u16) -> Amount
     ensures { λ r. ⌜ asReply r ≡ tonnageReply (now (book .entry)) number ⌝ }
 {
-    let found = find(book, 0, number);
+    let found = locate(book, 0, number);
     let refusal = found.answer;
     if refusal != 0 {
         return Amount::Refused(refusal);
     }
-    let k = found.place;
-    let pile = load_body(book, k);
+    let pile = found.pile;
     pile.tonnage()
 }
 

@@ -1,6 +1,5 @@
 // Rights of a desk. The side is a parameter: 0 for draw and 1 for tip.
-use crate::find::find;
-use crate::find::load_body;
+use crate::locate;
 use pile::Amount;
 ghost use mathlib.Core.Path.{_≡_};
 ghost use Rattle.rules.specs.Book.{rightsReply};
@@ -10,13 +9,12 @@ ghost use Rattle.pile.specs.Replies.{asReply};
 pub(crate) fn rights_of(book: &[u8], side: u8, desk: u8, number: u16) -> Amount
     ensures { λ r. ⌜ asReply r ≡ rightsReply (sideOf side) desk (now (book .entry)) number ⌝ }
 {
-    let found = find(book, desk, number);
+    let found = locate(book, desk, number);
     let refusal = found.answer;
     if refusal != 0 {
         return Amount::Refused(refusal);
     }
-    let k = found.place;
-    let pile = load_body(book, k);
+    let pile = found.pile;
     if side == 0 {
         return pile.draw_rights(desk);
     }

@@ -1,7 +1,7 @@
 -- The lines of the table for an act on a record, each from what leads to it.
 -- Assumes nothing.
 use Prim.Native.Nat.{ℕ, _+_, _*_, _≤_, _<_}
-use mathlib.Core.Path.{_≡_, refl, ap, sym, subst, _∙_}
+use mathlib.Core.Path.{_≡_, ap, sym, subst, _∙_}
 use mathlib.Core.Logic.{_≢_}
 use mathlib.Core.Bool.{true, false, not}
 use lib.ListN.{getD, set}
@@ -10,15 +10,11 @@ use borrow.Author.Tests.{lt-ltb, le-ltb}
 use Rattle.rules.specs.Loops.{_or_}
 use Rattle.rules.specs.Refusals.{_when_, _orElse_}
 use Rattle.rules.specs.Pile.{rights, tallyLimit, amountLimit}
-use Rattle.rules.specs.Acts.{Kind, spend, give, side, tally, receiverWrong, actRefusal}
+use Rattle.rules.specs.Acts.{Kind, side, tally, receiverWrong, actRefusal}
 use Rattle.rules.specs.Layout.{actColumn}
 use Rattle.rules.specs.Record.{Record, recordView, recordAnswer, recordDeskAnswer, recordActAnswer, recordAfterAct, rowPlaces}
 use Rattle.rules.proofs.Loops.Refusals.{when-accepted, own-refusal}
-
--- the tally of an act stands at its column of the desk's row
-pub tally-at : (r : Record) (i : ℕ) (kind : Kind) → tally (recordView r) i kind ≡ getD (r .tallies) (i * rowPlaces + actColumn 8 kind) 0
-tally-at r i (spend s) = refl
-tally-at r i (give s j) = refl
+pub use Rattle.rules.proofs.Record.Acts.{tally-at}
 
 module _ (r : Record) (i : ℕ) (kind : Kind) (t : ℕ) where
   pub own-answer : (m : ℕ) → m ≡ recordAnswer r → m ≢ 0 → m ≡ recordActAnswer i kind t r

@@ -1,4 +1,5 @@
 -- The record in memory. Facts, Shares and Unused: what its check tells. RecordOf, Fresh and OfBody: a pile, an opening and a body as a record.
+-- Acts: an act on the record of a body.
 -- Agreeing and RoundTrip: fetching and storing are inverse.
 pub mod Facts
 pub mod Shares
@@ -6,5 +7,6 @@ pub mod Unused
 pub mod RecordOf
 pub mod Fresh
 pub mod OfBody
+pub mod Acts
 pub mod Agreeing
 pub mod RoundTrip

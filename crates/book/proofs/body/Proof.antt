@@ -8,9 +8,8 @@ use Rattle.rules.specs.Numbers.{part, partPlace}
 use Rattle.rules.specs.Layout.{desks, piles, position}
 use Rattle.rules.proofs.File.Readable.{BookFacts, book-facts}
 use borrow.Author.Needs.{needs}
-use Rattle.book.specs.Within.{HasPlace}
 use Rattle.book.proofs.Lengths.{body-within}
-use Rattle.book.proofs.Replies.{has-place, part-refused, start-refused, part-found, start-found}
+use Rattle.book.proofs.Replies.{HasPlace, has-place, part-refused, start-refused, part-found, start-found}
 use Rattle.book.proofs.body.Statement.{statement}
 use Rattle.book.proofs.body.Tie as tie
 

@@ -1,44 +1,44 @@
 -- `store` asks the lines of the table in their order, and writes the record over its pile's body.
 -- Assumes nothing.
-use Prim.Native.Nat.{ℕ}
 use native.Mathlib.Omega.{arith}
 use mathlib.Core.Path.{_≡_, ap, sym, _∙_}
 use borrow.Author.Needs.{needs}
 use borrow.Author.Tests.{eq-eqb, ne-eqb}
 use Rattle.rules.specs.Pile.{sameOpening}
 use Rattle.rules.specs.Layout.{desks, piles, bodyAt, pileOf}
-use Rattle.rules.specs.Book.{fetchAnswer, place}
+use Rattle.rules.specs.Book.{deskAnswer, fetchAnswer, place}
 use Rattle.rules.specs.Record.{Record, recordView, recordAnswer}
 use Rattle.rules.proofs.Loops.Logic.{holds, fails, and-both, and-left-fails, and-right-fails}
 use Rattle.rules.proofs.Pile.Agree.{same-opening-cong}
 use Rattle.rules.proofs.File.Readable.{BookFacts, book-facts}
-use Rattle.rules.proofs.Record.RecordOf.{record-agrees}
+use Rattle.rules.proofs.File.Found.{found-readable, found-place}
+use Rattle.rules.proofs.Record.OfBody.{body-agrees, found-record, found-start}
 use Rattle.pile.specs.View.{asRecord}
 use Rattle.book.proofs.Lengths.{body-within}
-use Rattle.book.specs.Within.{HasPlace}
-use Rattle.book.proofs.Replies.{has-place, fetch-is}
+use Rattle.book.proofs.Replies.{fetch-is}
 use Rattle.book.proofs.BookLines.{store-refused, store-own, store-record, store-30, store-accepted}
 use Rattle.book.proofs.store.Statement.{statement}
 use Rattle.book.proofs.store.Tie as tie
 
-abbrev start : tie.After-find → tie.Start
+abbrev start : tie.After-locate → tie.Start
 start c = c .before .before .before
 
-fetched : (c : tie.After-find) → c .find .result .answer ≡ fetchAnswer (start c .args .book .now) (start c .args .number)
-fetched c = fetch-is _ _ (c .find .ensures .0)
+fetched : (c : tie.After-locate) → c .locate .result .answer ≡ fetchAnswer (start c .args .book .now) (start c .args .number)
+fetched c = fetch-is _ _ (c .locate .ensures .0)
 
 -- past the first test the pile is found, and the book is as the table wants it
 found : (c : tie.Else1) → fetchAnswer (start (c .before) .args .book .now) (start (c .before) .args .number) ≡ 0
 found c = sym (fetched (c .before)) ∙ c .if1 .left
 
-located : (c : tie.Else1) → c .before .find .result .place ≡ place (start (c .before) .args .book .now) (start (c .before) .args .number)
-located c = c .before .find .ensures .1 (c .if1 .left)
-
-placed : (c : tie.Else1) → HasPlace (start (c .before) .args .book .now) (c .before .find .result .place)
-placed c = has-place 0 _ _ (c .before .find .ensures .0) (c .if1 .left) (located c)
+located : (c : tie.Else1) → deskAnswer 0 (start (c .before) .args .book .now) (start (c .before) .args .number) ≡ 0
+located c = sym (c .before .locate .ensures .0) ∙ c .if1 .left
 
 abbrev facts : (c : tie.Else1) → BookFacts (start (c .before) .args .book .now)
-facts c = book-facts _ (placed c .readable)
+facts c = book-facts _ (found-readable 0 _ _ (located c))
+
+begins : (c : tie.Else1) → let b = start (c .before) .args .book .now in
+    c .before .locate .result .start ≡ bodyAt (desks b) (piles b) (place b (start (c .before) .args .number))
+begins c = c .before .locate .ensures .1 .0 ∙ found-start 0 _ _ (located c)
 
 -- past the second the record is as it wants it
 abbrev one : tie.Else2 → tie.Else1
@@ -50,27 +50,23 @@ passed c = sym (c .before .check .ensures) ∙ c .if2 .left
 abbrev two : tie.Else3 → tie.Else2
 two c = c .before .before .before
 
-abbrev three : tie.Else4 → tie.Else3
-three c = c .before .before .before .before
+abbrev three : tie.After-same-opening → tie.Else3
+three c = c .before .before
 
-abbrev four : tie.After-body-at → tie.Else4
-four c = c .before .before .before
-
--- the loaded record's opening is the stored pile's
-opening : (c : tie.After-same-opening) → let a = start (one (two (c .before .before .before)) .before) .args in let b = a .book .now in
+-- the opening of the record found is the stored pile's
+opening : (c : tie.After-same-opening) → let a = start (one (two (three c)) .before) .args in let b = a .book .now in
     c .same-opening .result ≡ sameOpening (desks b) (recordView (asRecord (a .pile))) (pileOf b (place b (a .number)))
 opening c =
-    let first = one (two (c .before .before .before)) in
+    let first = one (two (three c)) in
     let a = start (first .before) .args in
     let b = a .book .now in
     let own = recordView (asRecord (a .pile)) in
-    let at = first .before .find .result .place in
-    c .same-opening .ensures ∙ ap (λ (r : Record). sameOpening (desks b) own (recordView r)) (c .before .load-body .ensures)
-    ∙ same-opening-cong (desks b) _ _ (record-agrees (desks b) (pileOf b at) (facts first .sizes .desks-most)) own
-    ∙ ap (λ (k : ℕ). sameOpening (desks b) own (pileOf b k)) (located first)
+    c .same-opening .ensures
+    ∙ ap (λ (r : Record). sameOpening (desks b) own (recordView r)) (first .before .locate .ensures .1 .1 ∙ found-record 0 _ _ (located first))
+    ∙ same-opening-cong (desks b) _ _ (body-agrees b _ (found-readable 0 _ _ (located first)) (found-place 0 _ _ (located first))) own
 
-find-requires : tie.Need-find-requires
-find-requires c κs = search needs
+locate-requires : tie.Need-locate-requires
+locate-requires c κs = search needs
 
 same-length : tie.Need-same-length
 same-length c = search needs
@@ -98,46 +94,29 @@ returns-3 c =
     let second = c .before .before .before in
     store-refused _ _ _ (store-30 _ _ _ (found (one second)) (passed second) (and-left-fails (ne-eqb _ _ (c .if3 .taken)) _)) (omega arith)
 
-load-body-requires : tie.Need-load-body-requires
-load-body-requires c κs = placed (one (two (c .before)))
-
 cast-same-opening : tie.Need-cast-same-opening
 cast-same-opening c = search needs
 
 same-opening-requires : tie.Need-same-opening-requires
-same-opening-requires c κs = facts (one (two (c .before .before))) .sizes .desks-most
+same-opening-requires c κs = facts (one (two (c .before))) .sizes .desks-most
 
 same-length-4 : tie.Need-same-length-4
 same-length-4 c = search needs
 
 returns-4 : tie.Need-returns-4
 returns-4 c =
-    let second = two (c .before .before .before .before) in
+    let second = two (three (c .before)) in
     store-refused _ _ _ (store-30 _ _ _ (found (one second)) (passed second) (and-right-fails _ (fails (opening (c .before)) (c .if4 .taken)))) (omega arith)
-
-slice-read-p : tie.Need-slice-read-p
-slice-read-p c = search (needs, facts (one (two (three (c .before)))) .long)
-
-cast-p : tie.Need-cast-p
-cast-p c = search (needs, facts (one (two (three (c .before)))) .sizes .piles-most)
 
 cast-save : tie.Need-cast-save
 cast-save c = search needs
 
-cast-body-at : tie.Need-cast-body-at
-cast-body-at c = search needs
-
-body-at-requires : tie.Need-body-at-requires
-body-at-requires c κs =
-    let first = one (two (three (c .before .before))) in
-    let f = facts first in (f .sizes .desks-most, f .sizes .piles-most, omega (arith, placed first .below, f .sizes .piles-most))
-
 save-requires : tie.Need-save-requires
 save-requires c κs =
-    let first = one (two (three (four c))) in
+    let first = one (two (three (c .before .before))) in
     let b = start (first .before) .args .book .now in
     let f = facts first in
-    search (needs, f .sizes .desks-most, f .sized, body-within (desks b) (piles b) _ (placed first .below))
+    search (needs, f .sizes .desks-most, f .sized, begins first, body-within (desks b) (piles b) _ (found-place 0 _ _ (located first)))
 
 same-length-5 : tie.Need-same-length-5
 same-length-5 c = search needs
@@ -145,17 +124,17 @@ same-length-5 c = search needs
 returns-5 : tie.Need-returns-5
 returns-5 c =
     let save = c .before .before in
-    let last = four (save .before) in
-    let third = three last in
+    let last = save .before .before in
+    let third = three (last .before) in
     let first = one (two third) in
     store-accepted _ _ _ (found first) (passed (two third)) (and-both (eq-eqb _ _ (third .if3 .left)) (holds (opening (last .before)) (last .if4 .left)))
-    (save .before .body-at .ensures ∙ ap (bodyAt _ _) (located first)) (save .save .ensures)
+    (begins first) (save .save .ensures)
 
 pub store-spec : {M : Type 1} → statement M
 store-spec =
     tie.close
     (tie.spec
-    find-requires
+    locate-requires
     same-length
     returns
     check-requires
@@ -164,16 +143,11 @@ store-spec =
     slice-read-n
     same-length-3
     returns-3
-    load-body-requires
     cast-same-opening
     same-opening-requires
     same-length-4
     returns-4
-    slice-read-p
-    cast-p
     cast-save
-    cast-body-at
-    body-at-requires
     save-requires
     same-length-5
     returns-5)

@@ -7,7 +7,9 @@ use mathlib.Core.Logic.{inl, inr, ⊎-elim}
 use mathlib.Core.List.{List, [], _∷_}
 use lib.ListN.{length, getD, set}
 use lib.Seq.{sets}
-use Rattle.rules.specs.Numbers.{number, bytes}
+use borrow.Author.Tests.{le-ltb}
+use Rattle.rules.specs.Numbers.{number, bytes, putAnswer, afterPut}
+use Rattle.rules.proofs.Loops.Refusals.{not-met, when-accepted}
 use Rattle.rules.proofs.Loops.Ranges.{Apart}
 use Rattle.rules.proofs.Loops.Sets.{getD-sets-other, getD-sets-in}
 use Rattle.rules.proofs.Bytes.Numbers.{Octets, length-bytes, number-cong, number-bytes}
@@ -22,6 +24,11 @@ octets-set (y ∷ b) (suc at) x o l (suc k) = octets-set b at x (λ k. o (suc k)
 pub octets-sets : (b : List ℕ) (at : ℕ) (v : List ℕ) → Octets b → Octets v → Octets (sets b at v)
 octets-sets b at [] o ov = o
 octets-sets b at (x ∷ v) o ov = octets-sets (set b at x) (suc at) v (octets-set b at x o (ov 0)) (λ k. ov (suc k))
+
+-- a number that has room is written
+pub put-fits : (w : ℕ) (b : List ℕ) (at x : ℕ) → at + w ≤ length b → afterPut w b at x ≡ sets b at (bytes w x)
+unfolding afterPut putAnswer
+put-fits w b at x l = when-accepted _ _ _ (not-met 8 (le-ltb _ _ l))
 
 -- the number that is written, and a number beside it
 pub put-same : (w : ℕ) (b : List ℕ) (at x : ℕ) → x < 256 ^ w → at + w ≤ length b → number w (sets b at (bytes w x)) at ≡ x

@@ -27,18 +27,18 @@ use Rattle.rules.proofs.File.PutCell.{putCell, Puts, put-cell, put-pile
 
 -- what an accepted act tells
 module _ (i : ℕ) (a : Act) (b : List ℕ) (accepted : actAnswer i a b ≡ 0) where
-  found : deskAnswer i b (a .pile) ≡ 0
+  pub act-found : deskAnswer i b (a .pile) ≡ 0
   unfolding actAnswer
-  found = orElse-first _ _ accepted
+  act-found = orElse-first _ _ accepted
 
   pub act-readable : bookAnswer b ≡ 0
-  act-readable = found-readable i b (a .pile) found
+  act-readable = found-readable i b (a .pile) act-found
 
   pub act-desk : i < desks b
-  act-desk = found-desk i b (a .pile) found
+  act-desk = found-desk i b (a .pile) act-found
 
   pub act-pile : place b (a .pile) < piles b
-  act-pile = found-place i b (a .pile) found
+  act-pile = found-place i b (a .pile) act-found
 
   pub act-allowed : ActFacts (desks b) (pileOf b (place b (a .pile))) i (a .kind) (a .amount)
   unfolding actAnswer
@@ -57,7 +57,7 @@ actedAt-facts n P k i kind t l a k′ f = go (eqb k′ k) refl
     go false e = f
 
 -- the act's column is one of its row's
-act-column : (n i : ℕ) (kind : Kind) → Receives n i kind → actColumn n kind < columns n
+pub act-column : (n i : ℕ) (kind : Kind) → Receives n i kind → actColumn n kind < columns n
 act-column n i (spend draw) r = omega arith
 act-column n i (spend tip) r = omega arith
 act-column n i (give s j) r = column-below n s j (r .0)

@@ -15,7 +15,7 @@ use Rattle.rules.specs.Loops.{flat}
 use Rattle.rules.specs.Numbers.{part}
 use Rattle.rules.proofs.Loops.Ranges.{piece-within}
 use Rattle.rules.proofs.Loops.Pieces.{flat-cong, length-flat}
-use Rattle.rules.proofs.Loops.Parts.{part-is}
+use Rattle.rules.proofs.Loops.Parts.{length-part, getD-part, part-is}
 
 pub getD-sets-other : (b : List ℕ) (at : ℕ) (v : List ℕ) (k : ℕ) → (k < at) ⊎ (at + length v ≤ k) → getD (sets b at v) k 0 ≡ getD b k 0
 getD-sets-other b at [] k h = refl
@@ -38,6 +38,13 @@ getD-sets-in b at (x ∷ v) (suc j) l fits =
 pub part-sets : (b : List ℕ) (at : ℕ) (v : List ℕ) → at + length v ≤ length b → part at (length v) (sets b at v) ≡ v
 part-sets b at v fits =
     part-is at (length v) (sets b at v) v (omega (arith, length-sets b at v)) refl (λ j l. getD-sets-in b at v j l fits)
+
+-- and a part behind it is as it was
+pub part-behind-sets : (b : List ℕ) (at : ℕ) (v : List ℕ) (from m : ℕ) → at + length v ≤ from → from + m ≤ length b
+    → part from m (sets b at v) ≡ part from m b
+part-behind-sets b at v from m behind fits =
+    part-is from m (sets b at v) (part from m b) (omega (arith, length-sets b at v)) (length-part from m b fits)
+    (λ j l. getD-sets-other b at v (from + j) (inr (omega arith)) ∙ sym (getD-part from m b j l))
 
 -- writing into the first of two lists, and into the second
 sets-cons : (x : ℕ) (l : List ℕ) (at : ℕ) (v : List ℕ) → sets (x ∷ l) (suc at) v ≡ x ∷ sets l at v

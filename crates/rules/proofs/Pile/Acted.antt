@@ -67,7 +67,7 @@ pub record ActFacts (n : ℕ) (p : Pile) (i : ℕ) (kind : Kind) (t : ℕ) : Typ
   pub enough : t ≤ rights n p (side kind) i
   pub room : tally p i kind + t ≤ tallyLimit
 
-receiver : (n i : ℕ) (kind : Kind) → receiverWrong n i kind ≡ false → Receives n i kind
+pub receiver : (n i : ℕ) (kind : Kind) → receiverWrong n i kind ≡ false → Receives n i kind
 receiver n i (spend s) e = tt
 receiver n i (give s j) e =
     (ltb-true j n (not-false (ltb j n) (or-left _ _ e)), λ q. eqb-false j i (or-right _ _ e) q)

@@ -64,7 +64,7 @@ module _ (b : List ℕ) (f : BookFacts b) (k r : ℕ) (k<p : k < piles b) (r<n :
       number-part 4 b (bodyAt (desks b) (piles b) k + cellAt (desks b) r 0) (rowLength (desks b)) (c * 4) (omega (arith, row-length (desks b))) ∙ ap (number 4 b) (omega arith)
 
 -- the row that is handed on
-later-of-long : (a b : List ℕ) (ℓ : ℕ) → length a ≡ ℓ → length b ≡ ℓ → length (laterOf a b) ≡ ℓ
+pub later-of-long : (a b : List ℕ) (ℓ : ℕ) → length a ≡ ℓ → length b ≡ ℓ → length (laterOf a b) ≡ ℓ
 later-of-long a b ℓ e d = cases (λ (l : List ℕ). length l ≡ ℓ) (later (places a) (numbersOf b) (numbersOf a)) (λ _. d) (λ _. e)
 
 -- of alike rows neither is later
@@ -113,14 +113,19 @@ module _ (own copy : List ℕ) (f : BookFacts own) (g : BookFacts copy) (same-n 
       ∙ sym (ap (λ (m : ℕ). every m (λ c. eqb (numbersOf (rowPart own k 0) c) (numbersOf (rowPart copy k 0) c))) (row-count own f k 0 k<p (zero-lt-suc n))
       ∙ every-cong (columns n) (λ c l. ap₂ eqb (row-cell own f k 0 k<p (zero-lt-suc n) c l) (copy-cell k 0 c k<p (zero-lt-suc n) l)))
 
+  first-row : (k : ℕ) → bodyAt n p k ≡ rowAt k 0
+  first-row k = omega arith
+
   -- the tests of a take, on rows found by their position
   pub same-piles-test : every p (λ k. eqb (pileNumber own k) (pileNumber copy k)
-      and alike (places (part (rowAt k 0) (rowLength n) own)) (numbersOf (part (rowAt k 0) (rowLength n) own)) (numbersOf (part (rowAt k 0) (rowLength n) copy)))
+      and alike (places (part (bodyAt n p k) (rowLength n) own)) (numbersOf (part (bodyAt n p k) (rowLength n) own)) (numbersOf (part (bodyAt n p k) (rowLength n) copy)))
       ≡ sameBook own copy
   unfolding sameBook
   same-piles-test =
       every-cong p (λ k k<p. ap (λ (b : Bool). eqb (pileNumber own k) (pileNumber copy k) and b)
-      (ap₂ (λ (a b : List ℕ). alike (places a) (numbersOf a) (numbersOf b)) (sym (own-row k 0)) (sym (copy-row k 0)) ∙ sym (openings-test k k<p)))
+      (ap₂ (λ (a b : List ℕ). alike (places a) (numbersOf a) (numbersOf b)) (ap (λ (at : ℕ). part at (rowLength n) own) (first-row k) ∙ sym (own-row k 0))
+      (ap (λ (at : ℕ). part at (rowLength n) copy) (first-row k) ∙ sym (copy-row k 0))
+      ∙ sym (openings-test k k<p)))
       ∙ and-left-holds (eq-eqb p (piles copy) same-p) _
       ∙ and-left-holds (eq-eqb n (desks copy) same-n) _
 
@@ -136,11 +141,11 @@ module _ (own copy : List ℕ) (f : BookFacts own) (g : BookFacts copy) (same-n 
   row-in-order k r =
       omega (arith, add-mul (k * suc n) r (rowLength n), mul-assoc k (suc n) (rowLength n) ∙ ap (λ (x : ℕ). k * x) (body-rows n))
 
-  rows-end : frontLength p + p * suc n * rowLength n ≡ length own
+  pub rows-end : frontLength p + p * suc n * rowLength n ≡ length own
   unfolding bookLength bodyAt
   rows-end = omega (arith, f .sized, mul-assoc p (suc n) (rowLength n) ∙ ap (λ (x : ℕ). p * x) (body-rows n))
 
-  copy-long : length copy ≡ length own
+  pub copy-long : length copy ≡ length own
   copy-long = g .sized ∙ sym (ap₂ bookLength same-n same-p) ∙ sym (f .sized)
 
   -- what is written over row r, in file order

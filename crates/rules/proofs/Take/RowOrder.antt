@@ -14,11 +14,11 @@ use Rattle.rules.proofs.Loops.Logic as logic
 use Rattle.rules.proofs.Loops.Logic.{and-left, and-right, and-both, and-true, and-right-fails}
 use Rattle.rules.proofs.Take.Order.{at-least-at, at-least-all, alike-at, alike-all}
 
--- The product order: at least each other the rows are alike; one way only, that one is later; neither way they are split, a fork.
+-- In the product order: rows at least each other are alike; one that is so alone is later; with neither so they are split, a fork.
 abbrev pub orderBy : Bool → Bool → Order
-orderBy above below = cond above (cond below same first) (cond below second apart)
+orderBy x y = cond x (cond y same first) (cond y second apart)
 
--- does the result say that the rows are split; that the second is later
+-- does a result say that the rows are split; that the second is later
 abbrev pub isApart : Order → Bool
 isApart same = false
 isApart first = false
@@ -37,12 +37,12 @@ isSame first = false
 isSame second = false
 isSame apart = false
 
--- one place more, as a program's loop counts
+-- one place more, as a program's loop counts,
 at-least-next : (k : ℕ) (f g : ℕ → ℕ) → atLeast (k + 1) f g ≡ atLeast k f g and leb (g k) (f k)
 unfolding atLeast every
 at-least-next k f g = rw (add-one k)
 
--- and with the numbers x and y that stand there: the first row is below the second, or at least it.
+-- with the numbers x and y that stand there: the first row is below the second at it, or at least the second
 module _ (k : ℕ) (f g : ℕ → ℕ) {x y : ℕ} (x-is : x ≡ f k) (y-is : y ≡ g k) where
   pub at-least-fails : x < y → atLeast (k + 1) f g ≡ false
   at-least-fails l = at-least-next k f g ∙ and-right-fails _ (lt-leb (g k) (f k) (omega arith))
@@ -51,7 +51,7 @@ module _ (k : ℕ) (f g : ℕ → ℕ) {x y : ℕ} (x-is : x ≡ f k) (y-is : y 
   at-least-stays l = at-least-next k f g ∙ rw (le-leb (g k) (f k) (omega arith)) (and-true _)
 
 -- the product order is antisymmetric
-pub alike-both : (m : ℕ) (f g : ℕ → ℕ) → alike m f g ≡ atLeast m f g and atLeast m g f
+alike-both : (m : ℕ) (f g : ℕ → ℕ) → alike m f g ≡ atLeast m f g and atLeast m g f
 alike-both m f g =
     logic.same _ _
     (λ e. and-both (at-least-all m f g (λ c l. le-of-eq (sym (alike-at m f g e c l)))) (at-least-all m g f (λ c l. le-of-eq (alike-at m f g e c l))))
@@ -69,9 +69,9 @@ module _ (m : ℕ) (f g : ℕ → ℕ) where
       go false false = refl
 
   -- split exactly where the result is `apart`, and the second later exactly where it is `second`
-  pub split-told : {o : Order} → rowOrder m f g ≡ o → split m f g ≡ isApart o
+  pub split-told : {o : Order} → o ≡ rowOrder m f g → split m f g ≡ isApart o
   unfolding rowOrder split _and_
-  split-told e = go (alike m f g) (later m f g) (later m g f) ∙ ap isApart e
+  split-told e = go (alike m f g) (later m f g) (later m g f) ∙ ap isApart (sym e)
     where
       go : (a l k : Bool) → not a and not l and not k ≡ isApart (cond a same (cond l first (cond k second apart)))
       go true l k = refl
@@ -79,9 +79,9 @@ module _ (m : ℕ) (f g : ℕ → ℕ) where
       go false false true = refl
       go false false false = refl
 
-  pub second-told : {o : Order} → rowOrder m f g ≡ o → later m g f ≡ isSecond o
+  pub second-told : {o : Order} → o ≡ rowOrder m f g → later m g f ≡ isSecond o
   unfolding later _and_
-  second-told e = rw (alike-both m g f) (go (atLeast m f g) (atLeast m g f)) ∙ ap isSecond (sym row-order ∙ e)
+  second-told e = rw (alike-both m g f) (go (atLeast m f g) (atLeast m g f)) ∙ ap isSecond (sym (e ∙ row-order))
     where
       go : (x y : Bool) → y and not (y and x) ≡ isSecond (orderBy x y)
       go true true = refl
@@ -89,9 +89,9 @@ module _ (m : ℕ) (f g : ℕ → ℕ) where
       go false true = refl
       go false false = refl
 
-  pub alike-told : {o : Order} → rowOrder m f g ≡ o → alike m f g ≡ isSame o
+  pub alike-told : {o : Order} → o ≡ rowOrder m f g → alike m f g ≡ isSame o
   unfolding rowOrder
-  alike-told e = go (alike m f g) (later m f g) (later m g f) ∙ ap isSame e
+  alike-told e = go (alike m f g) (later m f g) (later m g f) ∙ ap isSame (sym e)
     where
       go : (a l k : Bool) → a ≡ isSame (cond a same (cond l first (cond k second apart)))
       go true l k = refl

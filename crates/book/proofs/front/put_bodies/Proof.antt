@@ -67,7 +67,7 @@ loop-again c =
     let more = turn c .loop-test .taken in
     let lawful = first-at (s .args .p) _ (s .pre .lawful) (at .loop .k) more in (
       search needs,
-      next-written _ (λ j. length-body (s .args .n) (givenPile (s .args .n) (s .args .numbers .now) j)) (at .loop .inv .1) more
+      next-written _ (λ j _. length-body (s .args .n) (givenPile (s .args .n) (s .args .numbers .now) j)) (at .loop .inv .1) more
           (search needs)
           (rw (record-body (s .args .n) (s .args .numbers .now) (at .loop .k) (s .pre .openings .listed .desks-most) (given .1 (given .0 ∙ lawful)))
           at (c .before .before .save .ensures)),

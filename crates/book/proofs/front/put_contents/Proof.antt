@@ -93,7 +93,7 @@ loop-again c =
     let put = c .before .before in
     let now = turn (put .before) in
     let a = start (now .before) .args in
-    next-written 6 (length-entry (a .n) (a .p) _ (givenPile (a .n) (a .numbers .now))) (now .before .loop .inv) (now .loop-test .taken) refl
+    next-written 6 (λ j _. length-entry (a .n) (a .p) _ (givenPile (a .n) (a .numbers .now)) j) (now .before .loop .inv) (now .loop-test .taken) refl
     (put-entry (a .n) (a .p) (a .numbers .now) _ (now .before .loop .k) (omega arith) (given-number _ _ _) (put .before .body-at .ensures)
     (two (put .before) .put2 .ensures .1) (put .put4 .ensures .1))
 

@@ -7,7 +7,7 @@ use lib.ListN.{getD}
 use Rattle.rules.specs.Numbers.{bytes}
 use Rattle.rules.proofs.Bytes.Numbers.{length-bytes, encode-list}
 use Rattle.book.proofs.Pieces.{Written, none-written, next-written, all-written}
-use Rattle.book.proofs.Saved.{put-fits}
+use Rattle.rules.proofs.Bytes.Put.{put-fits}
 use borrow.Author.Needs.{needs}
 use Rattle.book.proofs.save.put_run.Statement.{statement}
 use Rattle.book.proofs.save.put_run.Tie as tie
@@ -49,7 +49,7 @@ loop-again : tie.Need-loop-again Inv-loop μ-loop
 loop-again c =
     let put = c .before .before in
     let turn = put .before .before .before in
-    next-written 4 (λ j. length-bytes 4 _) (turn .before .loop .inv) (turn .loop-test .taken) refl (put .put4 .ensures .1 ∙ put-fits 4 _ _ _ (omega arith))
+    next-written 4 (λ j _. length-bytes 4 _) (turn .before .loop .inv) (turn .loop-test .taken) refl (put .put4 .ensures .1 ∙ put-fits 4 _ _ _ (omega arith))
 
 same-length : tie.Need-same-length Inv-loop μ-loop
 same-length c = search needs

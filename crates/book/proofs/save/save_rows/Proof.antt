@@ -84,7 +84,7 @@ loop-again c =
     let last = c .before .before in
     let now = turn (last .before) in
     let args = start (now .before) .args in
-    next-written _ (length-tally-row (args .n) (args .tallies .now)) (now .before .loop .inv) (now .loop-test .taken) refl
+    next-written _ (λ j _. length-tally-row (args .n) (args .tallies .now) j) (now .before .loop .inv) (now .loop-test .taken) refl
     (put-tallies _ _ (args .n) (args .tallies .now) (now .before .loop .i) (last .before .before .before .before .put-run .ensures) (last .put-run2 .ensures))
 
 same-length : tie.Need-same-length Inv-loop μ-loop

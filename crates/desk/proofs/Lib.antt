@@ -1,0 +1,5 @@
+pub mod Entered
+pub mod Held
+pub mod Judged
+pub mod Moved
+pub mod TakeLines

@@ -1,0 +1,128 @@
+-- `take` judges first; where nothing is refused, the later rows written in place make up the taken book.
+-- Assumes nothing.
+use Prim.Native.Nat.{ℕ, _+_, _*_, _≤_}
+use native.Mathlib.Nat.{mul-le-mul}
+use native.Mathlib.Numerals.{add-one}
+use native.Mathlib.Omega.{arith}
+use mathlib.Core.Path.{_≡_, ap, sym, _∙_}
+use lib.Seq.{sets}
+use borrow.Author.Needs.{needs}
+use Rattle.rules.specs.Loops.{flat}
+use Rattle.rules.specs.Layout.{frontLength, rowLength, desks, piles}
+use Rattle.rules.specs.Take.{takeAnswer, afterTake}
+use Rattle.rules.proofs.Loops.Refusals.{when-refused}
+use Rattle.rules.proofs.File.Readable.{BookFacts}
+use Rattle.rules.proofs.Take.InPlace.{own-facts, copy-facts, same-desks, same-count, copy-long, rows-end, piece, after-take}
+use Rattle.desk.proofs.take.Statement.{statement}
+use Rattle.desk.proofs.take.Tie as tie
+
+abbrev start : tie.Else1 → tie.Start
+start c = c .before .before .before .before .before
+
+accepted : (c : tie.Else1) → let a = start c .args in takeAnswer (a .desk) (a .own .now) (a .copy .now) ≡ 0
+accepted c = sym (c .before .take-answer .ensures) ∙ c .if1 .left
+
+facts : (c : tie.Else1) → BookFacts (start c .args .own .now)
+facts c = own-facts _ _ _ (accepted c)
+
+-- from the call that writes
+abbrev before : tie.After-take-rows-arg → tie.Else1
+before c = c .before .before .before
+
+rows-most : (c : tie.Else1) → let b = start c .args .own .now in piles b * (desks b + 1) ≤ 288
+rows-most c =
+    let s = facts c .sizes in
+    let desks-most : desks (start c .args .own .now) + 1 ≤ 9 = omega (arith, s .desks-most) in
+    mul-le-mul (s .piles-most) desks-most
+
+take-answer-requires : tie.Need-take-answer-requires
+take-answer-requires c κs = search needs
+
+same-length : tie.Need-same-length
+same-length c = search needs
+
+returns : tie.Need-returns
+unfolding afterTake
+returns c = let answer = c .before .take-answer .ensures in (answer, sym (when-refused _ _ _ (λ z. c .if1 .taken (answer ∙ z))))
+
+slice-read-n : tie.Need-slice-read-n
+slice-read-n c = search (needs, facts (c .before) .long)
+
+cast-n : tie.Need-cast-n
+cast-n c = search (needs, facts (c .before) .sizes .desks-most)
+
+slice-read-p : tie.Need-slice-read-p
+slice-read-p c = search (needs, facts (c .before .before) .long)
+
+cast-p : tie.Need-cast-p
+cast-p c = search (needs, facts (c .before .before) .sizes .piles-most)
+
+mul-take-rows : tie.Need-mul-take-rows
+mul-take-rows c = search (needs, facts (before c) .sizes .piles-most)
+
+add-take-rows : tie.Need-add-take-rows
+add-take-rows c = search (needs, facts (before c) .sizes .piles-most)
+
+add-take-rows-2 : tie.Need-add-take-rows-2
+add-take-rows-2 c = search (needs, facts (before c) .sizes .desks-most)
+
+mul-take-rows-2 : tie.Need-mul-take-rows-2
+mul-take-rows-2 c = search (needs, facts (before c) .sizes .desks-most)
+
+add-take-rows-3 : tie.Need-add-take-rows-3
+add-take-rows-3 c = search (needs, facts (before c) .sizes .desks-most)
+
+mul-take-rows-3 : tie.Need-mul-take-rows-3
+mul-take-rows-3 c = search (needs, rows-most (before c))
+
+take-rows-requires : tie.Need-take-rows-requires
+unfolding rowLength
+take-rows-requires c κs =
+    let one = before c in
+    let a = start one .args in
+    let e = accepted one in
+    let f = facts one in
+    let g = copy-facts _ _ _ e in
+    let same-n = same-desks _ _ _ e in
+    let same-p = same-count _ _ _ e in
+    let end = rw (← add-one (desks (a .own .now))) at (rows-end _ _ f g same-n same-p) in
+    record {
+      row-most = omega (arith, f .sizes .desks-most);
+      count-most = rows-most one;
+      within = record { in-own = omega (arith, end); in-copy = omega (arith, end, copy-long _ _ f g same-n same-p) };
+    }
+
+same-length-2 : tie.Need-same-length-2
+same-length-2 c = search needs
+
+returns-2 : tie.Need-returns-2
+unfolding rowLength
+returns-2 c =
+    let call = c .before .before in
+    let one = before (call .before) in
+    let a = start one .args in
+    let e = accepted one in
+    let b = a .own .now in
+    let pieces = piece b (a .copy .now) (facts one) (copy-facts _ _ _ e) (same-desks _ _ _ e) (same-count _ _ _ e) in
+    (sym e, call .take-rows .ensures ∙ ap (λ (m : ℕ). sets b (frontLength (piles b)) (flat (piles b * m) pieces)) (add-one (desks b)) ∙ after-take _ _ _ e)
+
+pub take-spec : {M : Type 1} → statement M
+take-spec =
+    tie.close
+    (tie.spec
+    take-answer-requires
+    same-length
+    returns
+    slice-read-n
+    cast-n
+    slice-read-p
+    cast-p
+    mul-take-rows
+    add-take-rows
+    add-take-rows-2
+    mul-take-rows-2
+    add-take-rows-3
+    mul-take-rows-3
+    take-rows-requires
+    same-length-2
+    returns-2)

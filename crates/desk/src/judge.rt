@@ -1,0 +1,153 @@
+// Whether a copy is taken: the lines of document 01's table for a take, in their order.
+use book::check;
+use number::get2;
+use number::get4;
+use rows::Order;
+use rows::compare;
+ghost use mathlib.Core.Path.{_≡_};
+ghost use Prim.Native.Nat.{suc, _+_, _*_};
+ghost use lib.Dec.{eqb};
+ghost use Rattle.rules.specs.Loops.{_and_, every};
+ghost use Rattle.rules.specs.Refusals.{first};
+ghost use Rattle.rules.specs.Numbers.{part};
+ghost use Rattle.rules.specs.Layout.{rowLength, bodyAt, pileNumber};
+ghost use Rattle.rules.specs.Rows.{rowOrder, alike, numbersOf, places};
+ghost use Rattle.rules.specs.Take.{rowAnswer, takeAnswer};
+ghost use Rattle.rows.specs.Orders.{asOrder};
+ghost use Rattle.desk.specs.Both.{InBoth, BodyInBoth, Alongside, rowIn};
+
+// The refusals of a copy are those of a book and so much more.
+const OF_COPY: u8 = 20;
+
+// An entry of the contents: where the first has its pile number and its position, and how far on the next is.
+const NUMBER: usize = 4;
+
+const POSITION: usize = 6;
+
+const ENTRY: usize = 6;
+
+// Compares the rows at one position of both books.
+pub(crate) fn compare_at(own: &[u8], copy: &[u8], at: usize, row: usize) -> Order
+    requires { ⌜ InBoth at row (now own) (now copy) ⌝ }
+    ensures { λ r. ⌜ asOrder r ≡ rowOrder (places (part at row (now (own .entry)))) (numbersOf (part at row (now (own .entry)))) (numbersOf (part at row (now (copy .entry)))) ⌝ }
+{
+    compare(&own[at..at + row], &copy[at..at + row])
+}
+
+// Are the rows at one position alike?
+fn alike_at(own: &[u8], copy: &[u8], at: usize, row: usize) -> bool
+    requires { ⌜ InBoth at row (now own) (now copy) ⌝ }
+    ensures { λ r. ⌜ r ≡ alike (places (part at row (now (own .entry)))) (numbersOf (part at row (now (own .entry)))) (numbersOf (part at row (now (copy .entry)))) ⌝ }
+{
+    let order = compare_at(own, copy, at, row);
+    match order {
+        Order::Alike => true,
+        Order::First => false,
+        Order::Second => false,
+        Order::Split => false,
+    }
+}
+
+// 31 where the rows at one position are split, 32 where they are the taker's own and the copy's is later.
+fn row_answer(own: &[u8], copy: &[u8], at: usize, row: usize, mine: bool) -> u8
+    requires { ⌜ InBoth at row (now own) (now copy) ⌝ }
+    ensures { λ r. ⌜ r ≡ rowAnswer mine (part at row (now (own .entry))) (part at row (now (copy .entry))) ⌝ }
+{
+    let order = compare_at(own, copy, at, row);
+    match order {
+        Order::Alike => 0,
+        Order::First => 0,
+        Order::Second => {
+            if mine {
+                return 32;
+            }
+            0
+        }
+        Order::Split => 31,
+    }
+}
+
+// The first refusal of the rows of one pile, desk by desk; its body starts at a position of both books.
+fn desks_answer(own: &[u8], copy: &[u8], n: usize, at: usize, desk: usize) -> u8
+    requires { ⌜ BodyInBoth n at (now own) (now copy) ⌝ }
+    ensures { λ r. ⌜ r ≡ first n (λ i. rowAnswer (eqb i desk) (rowIn n (at + suc i * rowLength n) (now (own .entry))) (rowIn n (at + suc i * rowLength n) (now (copy .entry)))) ⌝ }
+{
+    let row = 8 * (n + 1);
+    let mut from = at + row;
+    let mut i = 0;
+    while i < n {
+        let answer = row_answer(own, copy, from, row, i == desk);
+        if answer != 0 {
+            return answer;
+        }
+        from += row;
+        i += 1;
+    }
+    0
+}
+
+// The first refusal of all rows, by pile and then by desk.
+fn piles_answer(own: &[u8], copy: &[u8], n: usize, p: usize, desk: usize) -> u8
+    requires { ⌜ Alongside n p (now own) (now copy) ⌝ }
+    ensures { λ r. ⌜ r ≡ first p (λ k. first n (λ i. rowAnswer (eqb i desk) (rowIn n (bodyAt n p k + suc i * rowLength n) (now (own .entry))) (rowIn n (bodyAt n p k + suc i * rowLength n) (now (copy .entry))))) ⌝ }
+{
+    let mut k = 0;
+    while k < p {
+        let at = get4(own, POSITION + k * ENTRY) as usize;
+        let answer = desks_answer(own, copy, n, at, desk);
+        if answer != 0 {
+            return answer;
+        }
+        k += 1;
+    }
+    0
+}
+
+// Do the pile numbers and the opening rows agree, pile by pile?
+fn same_piles(own: &[u8], copy: &[u8], n: usize, p: usize) -> bool
+    requires { ⌜ Alongside n p (now own) (now copy) ⌝ }
+    ensures { λ r. ⌜ r ≡ every p (λ k. eqb (pileNumber (now (own .entry)) k) (pileNumber (now (copy .entry)) k)
+        and alike (places (rowIn n (bodyAt n p k) (now (own .entry)))) (numbersOf (rowIn n (bodyAt n p k) (now (own .entry)))) (numbersOf (rowIn n (bodyAt n p k) (now (copy .entry))))) ⌝ }
+{
+    let mut k = 0;
+    while k < p {
+        if get2(own, NUMBER + k * ENTRY) != get2(copy, NUMBER + k * ENTRY) {
+            return false;
+        }
+        let at = get4(own, POSITION + k * ENTRY) as usize;
+        if !alike_at(own, copy, at, 8 * (n + 1)) {
+            return false;
+        }
+        k += 1;
+    }
+    true
+}
+
+// All lines of the table, in their order.
+pub(crate) fn take_answer(own: &[u8], copy: &[u8], desk: u8) -> u8
+    ensures { λ r. ⌜ r ≡ takeAnswer desk (now (own .entry)) (now (copy .entry)) ⌝ }
+{
+    let mine = check(own);
+    if mine != 0 {
+        return mine;
+    }
+    let theirs = check(copy);
+    if theirs != 0 {
+        return OF_COPY + theirs;
+    }
+    if own[1] <= desk {
+        return 11;
+    }
+    if own[1] != copy[1] {
+        return 30;
+    }
+    if own[2] != copy[2] {
+        return 30;
+    }
+    let n = own[1] as usize;
+    let p = own[2] as usize;
+    if !same_piles(own, copy, n, p) {
+        return 30;
+    }
+    piles_answer(own, copy, n, p, desk as usize)
+}
