@@ -5,11 +5,11 @@ ghost use Prim.Native.Nat.{_≤_};
 ghost use Rattle.rules.specs.Layout.{sizesInRange, frontLength, bodyLength, bodyAt};
 
 // The head, and the contents' entries behind it: a pile number, and a position 2 bytes on.
-pub(crate) const HEAD: usize = 4;
+pub const HEAD: usize = 4;
 
-pub(crate) const ENTRY: usize = 6;
+pub const ENTRY: usize = 6;
 
-pub(crate) const POSITION: usize = HEAD + 2;
+pub const POSITION: usize = HEAD + 2;
 
 // The most piles of a book.
 pub(crate) const PILES: u8 = 32;

@@ -3,7 +3,7 @@ mod find;
 mod front;
 mod given;
 mod head;
-mod layout;
+pub mod layout;
 mod load;
 mod opening;
 mod queries;

@@ -1,5 +1,8 @@
 // Whether a copy is taken: the lines of document 01's table for a take, in their order.
 use book::check;
+use book::layout::ENTRY;
+use book::layout::HEAD;
+use book::layout::POSITION;
 use number::get2;
 use number::get4;
 use rows::Order;
@@ -18,13 +21,6 @@ ghost use Rattle.desk.specs.Both.{InBoth, BodyInBoth, Alongside, rowIn};
 
 // The refusals of a copy are those of a book and so much more.
 const OF_COPY: u8 = 20;
-
-// An entry of the contents: where the first has its pile number and its position, and how far on the next is.
-const NUMBER: usize = 4;
-
-const POSITION: usize = 6;
-
-const ENTRY: usize = 6;
 
 // Compares the rows at one position of both books.
 pub(crate) fn compare_at(own: &[u8], copy: &[u8], at: usize, row: usize) -> Order
@@ -111,7 +107,7 @@ fn same_piles(own: &[u8], copy: &[u8], n: usize, p: usize) -> bool
 {
     let mut k = 0;
     while k < p {
-        if get2(own, NUMBER + k * ENTRY) != get2(copy, NUMBER + k * ENTRY) {
+        if get2(own, HEAD + k * ENTRY) != get2(copy, HEAD + k * ENTRY) {
             return false;
         }
         let at = get4(own, POSITION + k * ENTRY) as usize;

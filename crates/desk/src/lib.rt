@@ -6,9 +6,11 @@ mod judge;
 mod merge;
 
 use acts::Kind;
+use book::layout::POSITION;
 use enter::enter;
 use judge::take_answer;
 use merge::take_rows;
+use number::get4;
 ghost use mathlib.Core.Path.{_≡_};
 ghost use Rattle.rules.specs.Pile.{draw, tip};
 ghost use Rattle.rules.specs.Acts.{spend, give};
@@ -60,6 +62,7 @@ pub fn take(own: &mut [u8], copy: &[u8], desk: u8) -> u8
     }
     let n = own[1] as usize;
     let p = own[2] as usize;
-    take_rows(own, copy, 4 + p * 6, 8 * (n + 1), p * (n + 1));
+    let front = get4(own, POSITION) as usize;
+    take_rows(own, copy, front, 8 * (n + 1), p * (n + 1));
     0
 }

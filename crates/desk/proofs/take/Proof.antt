@@ -1,14 +1,17 @@
 -- `take` judges first; where nothing is refused, the later rows written in place make up the taken book.
 -- Assumes nothing.
 use Prim.Native.Nat.{ℕ, _+_, _*_, _≤_}
-use native.Mathlib.Nat.{mul-le-mul}
+use native.Mathlib.Nat.{zero-mul, mul-le-mul}
 use native.Mathlib.Numerals.{add-one}
 use native.Mathlib.Omega.{arith}
 use mathlib.Core.Path.{_≡_, ap, sym, _∙_}
+use mathlib.Core.List.{List}
 use lib.Seq.{sets}
 use borrow.Author.Needs.{needs}
 use Rattle.rules.specs.Loops.{flat}
-use Rattle.rules.specs.Layout.{frontLength, rowLength, desks, piles}
+use Rattle.rules.specs.Layout.{frontLength, rowLength, bodyLength, bodyAt, desks, piles, position}
+use Rattle.rules.specs.Numbers.{part}
+use Rattle.rules.specs.Rows.{laterOf}
 use Rattle.rules.specs.Take.{takeAnswer, afterTake}
 use Rattle.rules.proofs.Loops.Refusals.{when-refused}
 use Rattle.rules.proofs.File.Readable.{BookFacts}
@@ -27,7 +30,14 @@ facts c = own-facts _ _ _ (accepted c)
 
 -- from the call that writes
 abbrev before : tie.After-take-rows-arg → tie.Else1
-before c = c .before .before .before
+before c = c .before .before .before .before .before
+
+-- the first body starts behind the front
+front : (c : tie.After-get4) → let b = start (c .before .before .before .before) .args .own .now in c .get4 .result ≡ frontLength (piles b)
+unfolding position bodyAt
+front c =
+    let f = facts (c .before .before .before .before) in
+    c .get4 .ensures ∙ f .placed 0 (f .sizes .piles-least) ∙ omega (arith, zero-mul (bodyLength (desks (start (c .before .before .before .before) .args .own .now))))
 
 rows-most : (c : tie.Else1) → let b = start c .args .own .now in piles b * (desks b + 1) ≤ 288
 rows-most c =
@@ -57,23 +67,23 @@ slice-read-p c = search (needs, facts (c .before .before) .long)
 cast-p : tie.Need-cast-p
 cast-p c = search (needs, facts (c .before .before) .sizes .piles-most)
 
-mul-take-rows : tie.Need-mul-take-rows
-mul-take-rows c = search (needs, facts (before c) .sizes .piles-most)
+get4-requires : tie.Need-get4-requires
+get4-requires c κs = search needs
+
+cast-front : tie.Need-cast-front
+cast-front c = search needs
 
 add-take-rows : tie.Need-add-take-rows
-add-take-rows c = search (needs, facts (before c) .sizes .piles-most)
+add-take-rows c = search (needs, facts (before c) .sizes .desks-most)
+
+mul-take-rows : tie.Need-mul-take-rows
+mul-take-rows c = search (needs, facts (before c) .sizes .desks-most)
 
 add-take-rows-2 : tie.Need-add-take-rows-2
 add-take-rows-2 c = search (needs, facts (before c) .sizes .desks-most)
 
 mul-take-rows-2 : tie.Need-mul-take-rows-2
-mul-take-rows-2 c = search (needs, facts (before c) .sizes .desks-most)
-
-add-take-rows-3 : tie.Need-add-take-rows-3
-add-take-rows-3 c = search (needs, facts (before c) .sizes .desks-most)
-
-mul-take-rows-3 : tie.Need-mul-take-rows-3
-mul-take-rows-3 c = search (needs, rows-most (before c))
+mul-take-rows-2 c = search (needs, rows-most (before c))
 
 take-rows-requires : tie.Need-take-rows-requires
 unfolding rowLength
@@ -89,7 +99,7 @@ take-rows-requires c κs =
     record {
       row-most = omega (arith, f .sizes .desks-most);
       count-most = rows-most one;
-      within = record { in-own = omega (arith, end); in-copy = omega (arith, end, copy-long _ _ f g same-n same-p) };
+      within = record { in-own = omega (arith, end, front (c .before)); in-copy = omega (arith, end, front (c .before), copy-long _ _ f g same-n same-p) };
     }
 
 same-length-2 : tie.Need-same-length-2
@@ -104,7 +114,8 @@ returns-2 c =
     let e = accepted one in
     let b = a .own .now in
     let pieces = piece b (a .copy .now) (facts one) (copy-facts _ _ _ e) (same-desks _ _ _ e) (same-count _ _ _ e) in
-    (sym e, call .take-rows .ensures ∙ ap (λ (m : ℕ). sets b (frontLength (piles b)) (flat (piles b * m) pieces)) (add-one (desks b)) ∙ after-take _ _ _ e)
+    let rows : ℕ → ℕ → List ℕ = λ at r. laterOf (part (at + r * (8 * (desks b + 1))) (8 * (desks b + 1)) b) (part (at + r * (8 * (desks b + 1))) (8 * (desks b + 1)) (a .copy .now)) in
+    (sym e, call .take-rows .ensures ∙ ap (λ (at : ℕ). sets b at (flat (piles b * (desks b + 1)) (rows at))) (front (call .before .before)) ∙ ap (λ (m : ℕ). sets b (frontLength (piles b)) (flat (piles b * m) pieces)) (add-one (desks b)) ∙ after-take _ _ _ e)
 
 pub take-spec : {M : Type 1} → statement M
 take-spec =
@@ -117,12 +128,12 @@ take-spec =
     cast-n
     slice-read-p
     cast-p
-    mul-take-rows
+    get4-requires
+    cast-front
     add-take-rows
+    mul-take-rows
     add-take-rows-2
     mul-take-rows-2
-    add-take-rows-3
-    mul-take-rows-3
     take-rows-requires
     same-length-2
     returns-2)
