@@ -11,8 +11,9 @@ test:
 	$(RT) fmt --check
 	$(RT) ci
 
-# Proves the rules, the record and the file, lists cases a to j of document 01, which one theorem of the rules says hold, and runs the worked book.
+# Proves the rules and the programs, lists the cases of document 01 that two theorems of the rules say hold, and runs the worked book and a book of two piles.
 run:
-	@$(RT) check rules vectors
+	@$(RT) check rules vectors desk_vectors
 	@sed -n 's/^.*case "\(.*\)".*$$/holds: \1/p' crates/rules/proofs/Cases/Letters.antt crates/rules/proofs/Cases/Places.antt
 	@target/bin/vectors
+	@target/bin/desk_vectors

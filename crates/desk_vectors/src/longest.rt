@@ -1,0 +1,92 @@
+// The longest book: 8 desks and 32 piles in 20,932 bytes. Pile k has floor 0, top 16 and all 16 shares 1.
+use crate::alike;
+use crate::decimal;
+use crate::end;
+use crate::outcome;
+use crate::pile_of;
+use crate::rights;
+use crate::text;
+use book::length;
+use book::open;
+use desk::draw;
+use desk::take;
+use desk::tip;
+ghost use Prim.Native.Nat.{_<_};
+
+const LENGTH: usize = 20932;
+
+const NUMBERS: usize = 608;
+
+// The number at a place of the list, of which each pile has 19.
+fn given(at: usize) -> u32
+    requires { ⌜ at < 608 ⌝ }
+{
+    let place = at % 19;
+    if place == 0 {
+        return (at / 19) as u32 + 1;
+    }
+    if place == 1 {
+        return 0;
+    }
+    if place == 2 {
+        return 16;
+    }
+    1
+}
+
+fn list() -> [u32; NUMBERS] {
+    let mut numbers = [0u32; NUMBERS];
+    let mut at = 0;
+    while at < NUMBERS {
+        numbers[at] = given(at);
+        at += 1;
+    }
+    numbers
+}
+
+// The tonnage of pile 32, and the rights of desks 0, 1 and 7.
+fn line(label: &[u8], x: u8, before: &[u8], after: &[u8]) {
+    outcome(label, x, before, after);
+    pile_of(after, 32);
+    rights(after, 7, 32);
+    end();
+}
+
+fn opened() -> [u8; LENGTH] {
+    let numbers = list();
+    let before = [0u8; LENGTH];
+    let mut book = before;
+    let x = open(8, 32, &numbers, &mut book);
+    line(b"open the longest book", x, &before, &book);
+    book
+}
+
+// Desk 7 tips onto pile 32; what it then draws is past its rights.
+fn acted(fresh: [u8; LENGTH]) -> [u8; LENGTH] {
+    let mut book = fresh;
+    let x = tip(&mut book, 7, 32, 1);
+    line(b"desk 7 tips 1 onto 32", x, &fresh, &book);
+    let tipped = book;
+    let x = draw(&mut book, 7, 32, 3);
+    line(b"desk 7 draws 3 from 32", x, &tipped, &book);
+    book
+}
+
+// Desk 0 takes the copy into the book as opened; desk 7 may not.
+fn taken(fresh: [u8; LENGTH], copy: [u8; LENGTH]) {
+    let mut book = fresh;
+    let x = take(&mut book, &copy, 7);
+    line(b"desk 7 takes its own later row", x, &fresh, &book);
+    let x = take(&mut book, &copy, 0);
+    line(b"desk 0 takes it", x, &fresh, &book);
+    alike(b"the copy and the taken book", &copy, &book);
+}
+
+pub(crate) fn run() {
+    text(b"length for 8 desks and 32 piles: ");
+    decimal(length(8, 32) as u64);
+    end();
+    let fresh = opened();
+    let copy = acted(fresh);
+    taken(fresh, copy);
+}

@@ -1,0 +1,121 @@
+// Books as bytes: the acts and the take on the worked book (`worked.rt`), on a book of two piles (`takes.rt`, `refused.rt`, `broken.rt`) and on the longest
+// book (`longest.rt`), and two rows compared (`later.rt`). Each line has the call, its answer, and what it left of the lent bytes.
+mod broken;
+mod later;
+mod longest;
+mod refused;
+mod takes;
+mod worked;
+
+use book::draw_rights;
+use book::tip_rights;
+use book::tonnage;
+use libc::STDOUT_FILENO;
+use pile::Amount;
+
+pub(crate) fn text(s: &[u8]) {
+    io::write_all(STDOUT_FILENO, s);
+}
+
+pub(crate) fn decimal(x: u64) {
+    io::print_decimal(STDOUT_FILENO, x);
+}
+
+fn amount(a: Amount) {
+    text(b" ");
+    match a {
+        Amount::Tonnes(x) => decimal(x as u64),
+        Amount::Refused(k) => {
+            text(b"refused ");
+            decimal(k as u64);
+        }
+    }
+}
+
+pub(crate) fn wide(x: u8) -> u64 {
+    x as u64
+}
+
+// A sum over the bytes that tells their places too: each byte counts once for itself and once for each byte after it.
+fn sum(bytes: &[u8]) -> u64 {
+    let mut once: u64 = 0;
+    let mut sum: u64 = 0;
+    let mut i = 0;
+    while i < bytes.len() {
+        once = std::num::wrapping_add_u64(once, wide(bytes[i]));
+        sum = std::num::wrapping_add_u64(sum, once);
+        i += 1;
+    }
+    sum
+}
+
+// Are the bytes alike, one by one?
+fn same(a: &[u8], b: &[u8]) -> bool {
+    if a.len() != b.len() {
+        return false;
+    }
+    let mut i = 0;
+    while i < a.len() {
+        if a[i] != b[i] {
+            return false;
+        }
+        i += 1;
+    }
+    true
+}
+
+// A call and its answer.
+pub(crate) fn answer(label: &[u8], x: u8) {
+    text(label);
+    text(b": ");
+    decimal(x as u64);
+}
+
+// A call, its answer, and whether the bytes after it are those before it, with their sum.
+pub(crate) fn outcome(label: &[u8], x: u8, before: &[u8], after: &[u8]) {
+    answer(label, x);
+    if same(before, after) {
+        text(b" unaltered ");
+    } else {
+        text(b" altered ");
+    }
+    decimal(sum(after));
+}
+
+// Two books compared.
+pub(crate) fn alike(label: &[u8], a: &[u8], b: &[u8]) {
+    text(label);
+    if same(a, b) {
+        text(b": alike\n");
+    } else {
+        text(b": not alike\n");
+    }
+}
+
+// What a book says of a pile: its tonnage, and the draw and tip rights of desks 0 and 1.
+pub(crate) fn pile_of(book: &[u8], number: u16) {
+    text(b" now");
+    amount(tonnage(book, number));
+    rights(book, 0, number);
+    rights(book, 1, number);
+}
+
+pub(crate) fn rights(book: &[u8], desk: u8, number: u16) {
+    text(b" draw");
+    amount(draw_rights(book, desk, number));
+    text(b" tip");
+    amount(tip_rights(book, desk, number));
+}
+
+pub(crate) fn end() {
+    text(b"\n");
+}
+
+fn main() {
+    worked::run();
+    takes::run();
+    refused::run();
+    broken::run();
+    later::run();
+    longest::run();
+}
