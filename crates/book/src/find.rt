@@ -10,7 +10,7 @@ pub(crate) struct Found {
     pub place: usize,
 }
 
-// The book's own number, 11 where it does not have the desk, 10 where it does not have the pile. Every book has desk 0.
+// The book's own refusal, 11 where it does not have the desk, 10 where it does not have the pile. Every book has desk 0.
 pub(crate) fn find(book: &[u8], desk: u8, number: u16) -> Found
     ensures answer { λ r. ⌜ r .answer ≡ deskAnswer desk (now (book .entry)) number ⌝ }
     ensures place { λ r. ⌜ (r .answer ≡ 0 → r .place ≡ place (now (book .entry)) number) ⌝ }

@@ -31,7 +31,7 @@ pub(crate) fn bodies_answer(book: &[u8], n: u8, p: usize) -> u8
     0
 }
 
-// A book's own number: head, length and contents, and then its bodies.
+// A book's own answer: head, length and contents, and then its bodies.
 pub(crate) fn book_answer(book: &[u8]) -> u8
     ensures { λ r. ⌜ r ≡ bookAnswer (now (book .entry)) ⌝ }
 {

@@ -10,7 +10,7 @@ use borrow.Author.Tests.{eq-eqb, ne-eqb}
 use Rattle.rules.specs.Loops.{_and_, _or_}
 use Rattle.rules.specs.Numbers.{partPlace}
 use Rattle.rules.specs.Rows.{Order, rowOrder, numbersOf, places, isRowLength, laterRow, secondHandedOn}
-use Rattle.rules.proofs.Take.RowOrder.{isApart, isSecond, split-told, second-told}
+use Rattle.rules.proofs.Take.RowOrder.{isSplit, isSecondLater, split-told, second-told}
 
 -- the rows a and b, at the places p and q
 module _ (a b : List ℕ) {P : Type 0} (p q : P) where
@@ -27,7 +27,7 @@ module _ (a b : List ℕ) {P : Type 0} (p q : P) where
 
   pub handed : isRowLength (length a) ≡ true → length a ≡ length b
       → {o : Order} → o ≡ rowOrder (places a) (numbersOf a) (numbersOf b)
-      → Handed (cond (isApart o) [] (cond (isSecond o) b a)) (cond (isSecond o) q p)
+      → Handed (cond (isSplit o) [] (cond (isSecondLater o) b a)) (cond (isSecondLater o) q p)
   unfolding laterRow secondHandedOn _and_ _or_
   handed r l e = rw (r, eq-eqb _ _ l, split-told _ _ _ e, second-told _ _ _ e) (refl, refl)
 

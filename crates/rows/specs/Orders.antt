@@ -5,7 +5,7 @@ use Rattle.rows.specs.declared.Order.{Order}
 use Rattle.rows.specs.declared.Order.the-variants.{Alike, First, Second, Split}
 
 abbrev pub asOrder : Order → rules.Order
-asOrder Alike = rules.same
-asOrder First = rules.first
-asOrder Second = rules.second
-asOrder Split = rules.apart
+asOrder Alike = rules.bothAlike
+asOrder First = rules.firstLater
+asOrder Second = rules.secondLater
+asOrder Split = rules.bothSplit

@@ -26,10 +26,10 @@ split m f g = not (alike m f g) and not (later m f g) and not (later m g f)
 
 -- What comparing two rows tells: they are alike, the first is later, the second is, or they are split.
 pub data Order : Type 0 where
-  same first second apart : Order
+  bothAlike firstLater secondLater bothSplit : Order
 
 unfoldable pub rowOrder : ℕ → (ℕ → ℕ) → (ℕ → ℕ) → Order
-rowOrder m f g = cond (alike m f g) same (cond (later m f g) first (cond (later m g f) second apart))
+rowOrder m f g = cond (alike m f g) bothAlike (cond (later m f g) firstLater (cond (later m g f) secondLater bothSplit))
 
 -- the numbers of a row that stands in bytes, and how many they are
 abbrev pub numbersOf : List ℕ → ℕ → ℕ

@@ -5,7 +5,7 @@ use mathlib.Core.Bool.{cond}
 use mathlib.Core.List.{[]}
 use borrow.Author.Needs.{needs}
 use Rattle.rules.proofs.Loops.Logic.{holds, fails}
-use Rattle.rules.proofs.Take.RowOrder.{isApart, isSecond}
+use Rattle.rules.proofs.Take.RowOrder.{isSplit, isSecondLater}
 use Rattle.rows.specs.declared.Order.{Order}
 use Rattle.rows.specs.Orders.{asOrder}
 use Rattle.rows.proofs.Handed.{Handed, no-row, lengths-differ, handed, empty}
@@ -18,8 +18,8 @@ start c = c .before .before .before
 -- the rows have one length of a row, and are compared
 told : (c : tie.After-compare) {o : Order} → c .compare .result ≡ o → let rows = start (c .before .before .before) .args in
     Handed (rows .a .now) (rows .b .now) (rows .a .ptr) (rows .b .ptr)
-    (cond (isApart (asOrder o)) [] (cond (isSecond (asOrder o)) (rows .b .now) (rows .a .now)))
-    (cond (isSecond (asOrder o)) (rows .b .ptr) (rows .a .ptr))
+    (cond (isSplit (asOrder o)) [] (cond (isSecondLater (asOrder o)) (rows .b .now) (rows .a .now)))
+    (cond (isSecondLater (asOrder o)) (rows .b .ptr) (rows .a .ptr))
 told c e =
     let one = c .before .before in
     handed _ _ _ _ (holds (one .before .is-row-length .ensures) (one .if1 .left)) (c .before .if2 .left)

@@ -1,4 +1,4 @@
--- The book after an accepted act is the book with that one pile's act tallyPut, written anew: one number was put, and all others stand apart from it.
+-- The book after an accepted act is the book with that act entered in its one pile, written anew: one number was put, and all others stand apart from it.
 -- Assumes nothing.
 use Prim.Native.Nat.{ℕ, suc, _+_, _<_, suc-le-suc}
 use native.Mathlib.Nat.{suc-inj}

@@ -9,33 +9,33 @@ use mathlib.Core.Bool.{Bool, true, false, cond, not}
 use lib.Dec.{leb}
 use borrow.Author.Tests.{le-leb, lt-leb}
 use Rattle.rules.specs.Loops.{_and_, every}
-use Rattle.rules.specs.Rows.{atLeast, alike, later, split, Order, same, first, second, apart, rowOrder}
+use Rattle.rules.specs.Rows.{atLeast, alike, later, split, Order, bothAlike, firstLater, secondLater, bothSplit, rowOrder}
 use Rattle.rules.proofs.Loops.Logic as logic
 use Rattle.rules.proofs.Loops.Logic.{and-left, and-right, and-both, and-true, and-right-fails}
 use Rattle.rules.proofs.Take.Order.{at-least-at, at-least-all, alike-at, alike-all}
 
 -- In the product order: rows at least each other are alike; one that is so alone is later; with neither so they are split, a fork.
 abbrev pub orderBy : Bool → Bool → Order
-orderBy x y = cond x (cond y same first) (cond y second apart)
+orderBy x y = cond x (cond y bothAlike firstLater) (cond y secondLater bothSplit)
 
--- does a result say that the rows are split; that the second is later
-abbrev pub isApart : Order → Bool
-isApart same = false
-isApart first = false
-isApart second = false
-isApart apart = true
+-- does a result say that the rows are split; that the second is later; that they are alike
+abbrev pub isSplit : Order → Bool
+isSplit bothAlike = false
+isSplit firstLater = false
+isSplit secondLater = false
+isSplit bothSplit = true
 
-abbrev pub isSecond : Order → Bool
-isSecond same = false
-isSecond first = false
-isSecond second = true
-isSecond apart = false
+abbrev pub isSecondLater : Order → Bool
+isSecondLater bothAlike = false
+isSecondLater firstLater = false
+isSecondLater secondLater = true
+isSecondLater bothSplit = false
 
-abbrev pub isSame : Order → Bool
-isSame same = true
-isSame first = false
-isSame second = false
-isSame apart = false
+abbrev pub isAlike : Order → Bool
+isAlike bothAlike = true
+isAlike firstLater = false
+isAlike secondLater = false
+isAlike bothSplit = false
 
 -- one place more, as a program's loop counts,
 at-least-next : (k : ℕ) (f g : ℕ → ℕ) → atLeast (k + 1) f g ≡ atLeast k f g and leb (g k) (f k)
@@ -62,38 +62,38 @@ module _ (m : ℕ) (f g : ℕ → ℕ) where
   unfolding rowOrder later _and_
   row-order = rw (alike-both m f g, alike-both m g f) (go (atLeast m f g) (atLeast m g f))
     where
-      go : (x y : Bool) → cond (x and y) same (cond (x and not (x and y)) first (cond (y and not (y and x)) second apart)) ≡ orderBy x y
+      go : (x y : Bool) → cond (x and y) bothAlike (cond (x and not (x and y)) firstLater (cond (y and not (y and x)) secondLater bothSplit)) ≡ orderBy x y
       go true true = refl
       go true false = refl
       go false true = refl
       go false false = refl
 
-  -- split exactly where the result is `apart`, and the second later exactly where it is `second`
-  pub split-told : {o : Order} → o ≡ rowOrder m f g → split m f g ≡ isApart o
+  -- split exactly where the result says so, and so for the second later
+  pub split-told : {o : Order} → o ≡ rowOrder m f g → split m f g ≡ isSplit o
   unfolding rowOrder split _and_
-  split-told e = go (alike m f g) (later m f g) (later m g f) ∙ ap isApart (sym e)
+  split-told e = go (alike m f g) (later m f g) (later m g f) ∙ ap isSplit (sym e)
     where
-      go : (a l k : Bool) → not a and not l and not k ≡ isApart (cond a same (cond l first (cond k second apart)))
+      go : (a l k : Bool) → not a and not l and not k ≡ isSplit (cond a bothAlike (cond l firstLater (cond k secondLater bothSplit)))
       go true l k = refl
       go false true k = refl
       go false false true = refl
       go false false false = refl
 
-  pub second-told : {o : Order} → o ≡ rowOrder m f g → later m g f ≡ isSecond o
+  pub second-told : {o : Order} → o ≡ rowOrder m f g → later m g f ≡ isSecondLater o
   unfolding later _and_
-  second-told e = rw (alike-both m g f) (go (atLeast m f g) (atLeast m g f)) ∙ ap isSecond (sym (e ∙ row-order))
+  second-told e = rw (alike-both m g f) (go (atLeast m f g) (atLeast m g f)) ∙ ap isSecondLater (sym (e ∙ row-order))
     where
-      go : (x y : Bool) → y and not (y and x) ≡ isSecond (orderBy x y)
+      go : (x y : Bool) → y and not (y and x) ≡ isSecondLater (orderBy x y)
       go true true = refl
       go true false = refl
       go false true = refl
       go false false = refl
 
-  pub alike-told : {o : Order} → o ≡ rowOrder m f g → alike m f g ≡ isSame o
+  pub alike-told : {o : Order} → o ≡ rowOrder m f g → alike m f g ≡ isAlike o
   unfolding rowOrder
-  alike-told e = go (alike m f g) (later m f g) (later m g f) ∙ ap isSame (sym e)
+  alike-told e = go (alike m f g) (later m f g) (later m g f) ∙ ap isAlike (sym e)
     where
-      go : (a l k : Bool) → a ≡ isSame (cond a same (cond l first (cond k second apart)))
+      go : (a l k : Bool) → a ≡ isAlike (cond a bothAlike (cond l firstLater (cond k secondLater bothSplit)))
       go true l k = refl
       go false true k = refl
       go false false true = refl
