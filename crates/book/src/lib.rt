@@ -15,6 +15,7 @@ use find::find;
 use front::put_bodies;
 use front::put_front;
 use layout::ENTRY;
+use layout::HEAD;
 use layout::POSITION;
 use layout::body_at;
 use layout::body_length;
@@ -36,7 +37,7 @@ ghost use Rattle.rules.specs.Numbers.{partPlace};
 ghost use Rattle.rules.specs.Pile.{draw, tip};
 ghost use Rattle.rules.specs.Opening.{bufferLength, openingAnswer, afterOpening};
 ghost use Rattle.rules.specs.Book.{bookAnswer, fetchAnswer, deskAnswer, bodyPart, bodyStart, tonnageReply, rightsReply};
-ghost use Rattle.rules.specs.Record.{fetched, deskRecord, deskStart, storeAnswer, afterStore};
+ghost use Rattle.rules.specs.Record.{recordAt, fetched, deskRecord, deskStart, storeAnswer, afterStore};
 ghost use Rattle.pile.specs.View.{asRecord};
 ghost use Rattle.pile.specs.Replies.{asReply};
 
@@ -85,6 +86,28 @@ pub fn body(book: &[u8], number: u16) -> &[u8]
     let at = get4(book, POSITION + k * ENTRY) as usize;
     let size = body_length(book[1] as usize);
     &book[at..at + size]
+}
+
+// The pile whose body starts at a position, as a record; where no body is there, the record of all zeros, which every call on a record refuses with 2.
+// The book is not checked, so that a book that was is read in one pass, pile by pile; the record's own check is asked as for any record.
+pub fn pile_at(book: &[u8], position: u32) -> Pile
+    ensures { λ r. ⌜ asRecord r ≡ recordAt (now (book .entry)) position ⌝ }
+{
+    if book.len() < HEAD {
+        return Pile::zero();
+    }
+    let n = book[1];
+    if n < 1 {
+        return Pile::zero();
+    }
+    if Pile::DESKS < n {
+        return Pile::zero();
+    }
+    let at = position as usize;
+    if book.len() < at + body_length(n as usize) {
+        return Pile::zero();
+    }
+    load(book, n, at)
 }
 
 // What a desk's call needs of a pile: a refusal's number or 0, where the pile's body starts, and its record.

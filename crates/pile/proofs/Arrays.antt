@@ -1,7 +1,7 @@
 -- A loop that stores one element of an array after the other, and adds one term of a sum after the other.
 -- Assumes nothing.
 use Prim.Native.Nat.{ℕ, zero, suc, _+_, _≤_, _<_}
-use native.Mathlib.Decide.{ℕ-discrete}
+use native.Mathlib.Decide.{ℕ-discrete, decLt}
 use native.Mathlib.Nat.{le-of-suc-le-suc, eq-or-lt-of-le, add-zero}
 use native.Mathlib.Numerals.{add-one}
 use native.Mathlib.Omega.{arith}
@@ -9,11 +9,14 @@ use mathlib.Core.Path.{_≡_, ap, subst, subst⁻¹, sym, _∙_}
 use mathlib.Core.Bool.{Bool, true}
 use mathlib.Core.Logic.{⊎-elim, by-cases}
 use mathlib.Core.List.{List}
-use lib.ListN.{length, getD, set}
-use lib.Seq.{getD-set-same, getD-set-other}
-use Rattle.rules.specs.Loops.{sum, every}
+use lib.ListN.{length, getD, set, length-set}
+use lib.Seq.{ext-getD, getD-set-same, getD-set-other}
+use Rattle.rules.specs.Loops.{sum, every, list}
+use Rattle.rules.specs.Record.{padded}
 use Rattle.rules.proofs.Loops.Logic.{same}
 use Rattle.rules.proofs.Loops.Every.{every-at, every-all, every-next}
+use Rattle.rules.proofs.Loops.Pieces.{length-list, getD-list}
+use Rattle.rules.proofs.Record.RecordOf.{padded-used, padded-unused}
 
 pub sum-next : (k : ℕ) (f : ℕ → ℕ) → sum (k + 1) f ≡ sum k f + f k
 unfolding sum
@@ -48,3 +51,17 @@ set-at-most l i v k most i<l old new =
     by-cases (ℕ-discrete k i)
     (λ e. subst⁻¹ (λ (j : ℕ). getD (set l i v) j 0 ≤ most) e (subst⁻¹ (λ (x : ℕ). x ≤ most) (getD-set-same l i v 0 i<l) new))
     (λ d. subst⁻¹ (λ (x : ℕ). x ≤ most) (getD-set-other l i k v 0 d) old)
+
+-- numbers for i desks, and one more stored after them
+pub padded-next : (m i : ℕ) (f : ℕ → ℕ) → i < m → set (list m (padded i f)) i (f i) ≡ list m (padded (i + 1) f)
+padded-next m i f i<m =
+    ext-getD 0 _ _ (length-set (list m (padded i f)) i (f i) ∙ length-list m (padded i f) ∙ sym (length-list m (padded (i + 1) f)))
+    (λ k l. let k<m : k < m = omega (arith, length-set (list m (padded i f)) i (f i), length-list m (padded i f)) in at k k<m ∙ sym (getD-list m (padded (i + 1) f) 0 k k<m))
+  where
+    at : (k : ℕ) → k < m → getD (set (list m (padded i f)) i (f i)) k 0 ≡ padded (i + 1) f k
+    at k k<m =
+        by-cases (ℕ-discrete k i)
+        (λ e. rw e (getD-set-same (list m (padded i f)) i (f i) 0 (omega (arith, length-list m (padded i f))) ∙ sym (padded-used (i + 1) f i (omega arith))))
+        (λ d. getD-set-other (list m (padded i f)) i k (f i) 0 d ∙ getD-list m (padded i f) 0 k k<m
+        ∙ by-cases (decLt k i) (λ l. padded-used i f k l ∙ sym (padded-used (i + 1) f k (omega arith)))
+        (λ l. padded-unused i f k (omega arith) ∙ sym (padded-unused (i + 1) f k (omega arith))))

@@ -8,12 +8,13 @@ mod queries;
 use acts::give_side;
 use acts::spend_side;
 use check::audit_of;
+use queries::holdings_of;
 use queries::rights_of;
 use queries::tonnage_of;
 ghost use mathlib.Core.Path.{_≡_};
 ghost use Rattle.rules.specs.Pile.{draw, tip};
 ghost use Rattle.rules.specs.Acts.{spend, give};
-ghost use Rattle.rules.specs.Record.{recordAnswer, freshAnswer, freshRecord, zeroRecord, recordTonnageReply, recordRightsReply, recordActAnswer, recordAfterAct};
+ghost use Rattle.rules.specs.Record.{recordAnswer, freshAnswer, freshRecord, zeroRecord, recordTonnageReply, recordRightsReply, recordTonnage, recordRights, recordActAnswer, recordAfterAct};
 ghost use Rattle.pile.specs.View.{asRecord};
 ghost use Rattle.pile.specs.Replies.{asReply};
 
@@ -48,6 +49,14 @@ pub struct Outcome {
 pub enum Amount {
     Tonnes(u32),
     Refused(u8),
+}
+
+// All that a record's check finds: its own refusal or 0, the tonnage now, and each desk's draw and tip rights. All is 0 past n, and where the record is refused.
+pub struct Holdings {
+    pub answer: u8,
+    pub tonnage: u32,
+    pub draw: [u32; PLACES],
+    pub tip: [u32; PLACES],
 }
 
 impl Pile {
@@ -121,6 +130,16 @@ impl Pile {
         ensures { λ r. ⌜ asReply r ≡ recordTonnageReply (asRecord self) ⌝ }
     {
         tonnage_of(self)
+    }
+
+    // The tonnage now and the rights of all desks, from one check; refused with 2, 5, 6 or 7.
+    pub fn holdings(self) -> Holdings
+        ensures answer { λ r. ⌜ r .answer ≡ recordAnswer (asRecord self) ⌝ }
+        ensures tonnage { λ r. ⌜ r .tonnage ≡ recordTonnage (asRecord self) ⌝ }
+        ensures draw { λ r. ⌜ r .draw ≡ recordRights draw (asRecord self) ⌝ }
+        ensures tip { λ r. ⌜ r .tip ≡ recordRights tip (asRecord self) ⌝ }
+    {
+        holdings_of(self)
     }
 
     // The record after a desk tips; refused with 2, 5, 6, 7, 11, 13, 14 or 15, and then unaltered.

@@ -3,14 +3,14 @@
 use Prim.Native.Nat.{ℕ, zero, suc, _+_, _*_}
 use mathlib.Core.Bool.{Bool, cond, not}
 use mathlib.Core.List.{List, _∷_, _++_}
-use lib.ListN.{getD, set, replicate}
-use lib.Dec.{ltb, eqb}
+use lib.ListN.{length, getD, set, replicate}
+use lib.Dec.{leb, ltb, eqb}
 use lib.Seq.{sets}
 use Rattle.rules.specs.Loops.{_and_, _or_, between, every, flat, list}
 use Rattle.rules.specs.Refusals.{_when_, _orElse_, done, Reply, reply}
 use Rattle.rules.specs.Pile.{Side, draw, tip, bothSides, Pile, openingLawful, talliesLawful, lawful, sameOpening, rights, tonnage}
 use Rattle.rules.specs.Acts.{Kind, tally, actRefusal}
-use Rattle.rules.specs.Layout.{deskLimit, columns, actColumn, view, desks, piles, pileOf, bodyAt, bodyBytes}
+use Rattle.rules.specs.Layout.{deskLimit, columns, actColumn, view, bodyView, desks, piles, pileOf, bodyLength, bodyAt, bodyBytes}
 use Rattle.rules.specs.Book.{place, fetchAnswer, deskAnswer}
 
 -- The flat arrays: the share of side s and desk j stands at 8s + j; row i of the tallies at i * rowPlaces, its columns as in a body of 8 desks.
@@ -53,6 +53,10 @@ unusedPlaces n p =
     every deskLimit (λ i. (ltb i n or bothZero (λ s. p .earned s i))
     and every deskLimit (λ j. (ltb i n and ltb j n) or bothZero (λ s. p .give s i j)))
 
+-- numbers for n desks, and 0 at the places past n
+abbrev pub padded : ℕ → (ℕ → ℕ) → ℕ → ℕ
+padded n f j = cond (ltb j n) (f j) 0
+
 -- "Pile record alone": 2, 5, 6 and 7
 unfoldable pub recordAnswer : Record → ℕ
 recordAnswer r =
@@ -87,6 +91,13 @@ recordDeskAnswer i r = recordAnswer r orElse 11 when not (ltb i (r .n))
 unfoldable pub recordRightsReply : Side → ℕ → Record → Reply
 recordRightsReply s i r = reply (recordDeskAnswer i r) (rights (r .n) (recordView r) s i)
 
+-- all that a record's check finds: the tonnage, and the rights of each desk; 0 where the record is refused
+unfoldable pub recordTonnage : Record → ℕ
+recordTonnage r = done (recordAnswer r) (tonnage (r .n) (recordView r)) 0
+
+unfoldable pub recordRights : Side → Record → List ℕ
+recordRights s r = done (recordAnswer r) (list deskLimit (padded (r .n) (rights (r .n) (recordView r) s))) (replicate deskLimit 0)
+
 -- an act of desk i, and the record after it: unaltered where it is refused
 unfoldable pub recordActAnswer : ℕ → Kind → ℕ → Record → ℕ
 recordActAnswer i kind t r = recordDeskAnswer i r orElse actRefusal (r .n) (recordView r) i kind t
@@ -103,10 +114,7 @@ recordAfterAct i kind t r =
     })
     r
 
--- a pile of n desks as a record, its unused places 0
-abbrev pub padded : ℕ → (ℕ → ℕ) → ℕ → ℕ
-padded n f j = cond (ltb j n) (f j) 0
-
+-- a pile of n desks as a record
 unfoldable pub paddedRow : ℕ → Pile → ℕ → List ℕ
 paddedRow n p i =
     padded n (p .earned draw) i ∷ padded n (p .earned tip) i
@@ -122,6 +130,11 @@ recordOf n p =
       shares = list deskLimit (padded n (p .share draw)) ++ list deskLimit (padded n (p .share tip));
       tallies = flat deskLimit (paddedRow n p);
     }
+
+-- the record of the body that starts at a position of a book's contents: all zeros where no body of the head's n desks is there. The book is not checked.
+unfoldable pub recordAt : List ℕ → ℕ → Record
+recordAt b at =
+    cond (between 1 deskLimit (desks b) and leb (at + bodyLength (desks b)) (length b)) (recordOf (desks b) (bodyView (desks b) b at)) zeroRecord
 
 -- fetching a pile: all zeros where it is refused
 unfoldable pub fetched : List ℕ → ℕ → Record

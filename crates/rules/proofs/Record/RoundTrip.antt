@@ -31,7 +31,7 @@ use Rattle.rules.proofs.Record.RecordOf.{record-agrees}
 use Rattle.rules.proofs.Record.OfBody.{body-record}
 use Rattle.rules.proofs.Record.Agreeing.{record-of-agreeing}
 
-body-in : (b : List ℕ) → BookFacts b → (k : ℕ) → k < piles b → bodyAt (desks b) (piles b) k + bodyLength (desks b) ≤ length b
+pub body-in : (b : List ℕ) → BookFacts b → (k : ℕ) → k < piles b → bodyAt (desks b) (piles b) k + bodyLength (desks b) ≤ length b
 body-in b f k l = omega (arith, f .sized, body-within (desks b) (piles b) k l)
 
 -- a pile that is fetched

@@ -1,0 +1,30 @@
+-- What a record's check finds of all desks at once is what each query replies.
+-- Assumes nothing.
+use Prim.Native.Nat.{ℕ, _<_}
+use native.Mathlib.Omega.{arith}
+use mathlib.Core.Path.{_≡_, ap, sym, _∙_}
+use lib.ListN.{getD}
+use borrow.Author.Tests.{ltb-true}
+use Rattle.rules.specs.Refusals.{value, reply}
+use Rattle.rules.specs.Pile.{Side, rights}
+use Rattle.rules.specs.Layout.{deskLimit}
+use Rattle.rules.specs.Record.{Record, recordView, recordAnswer, padded, recordDeskAnswer, recordTonnageReply, recordRightsReply, recordTonnage, recordRights}
+use Rattle.rules.proofs.Loops.Refusals.{orElse-first, orElse-rest, when-not-done, when-accepted}
+use Rattle.rules.proofs.Loops.Pieces.{getD-list}
+use Rattle.rules.proofs.Record.Facts.{record-facts}
+use Rattle.rules.proofs.Record.RecordOf.{padded-used}
+
+module _ (r : Record) where
+  pub all-tonnage : recordAnswer r ≡ 0 → recordTonnageReply r ≡ value (recordTonnage r)
+  unfolding recordTonnageReply recordTonnage reply
+  all-tonnage e = when-accepted _ _ _ e ∙ ap value (sym (when-accepted _ _ _ e))
+
+  pub all-rights : (s : Side) (i : ℕ) → recordDeskAnswer i r ≡ 0 → recordRightsReply s i r ≡ value (getD (recordRights s r) i 0)
+  unfolding recordRightsReply recordDeskAnswer recordRights reply
+  all-rights s i e =
+      let own : recordAnswer r ≡ 0 = orElse-first _ _ e in
+      let desk : i < r .n = ltb-true _ _ (when-not-done _ _ (orElse-rest _ _ e)) in
+      let own-rights = rights (r .n) (recordView r) s in
+      when-accepted _ _ _ e
+      ∙ ap value (sym (rw (when-accepted (recordAnswer r) _ _ own)
+      (getD-list deskLimit (padded (r .n) own-rights) 0 i (omega (arith, record-facts r own .desks-most)) ∙ padded-used (r .n) own-rights i desk)))
