@@ -3,9 +3,9 @@
 use Prim.Native.Nat.{ℕ, _≤_, _<_}
 use native.Mathlib.Nat.{eq-zero-or-pos}
 use native.Mathlib.Omega.{arith}
-use mathlib.Core.Path.{_≡_, refl, ap, sym, _∙_}
+use mathlib.Core.Path.{_≡_, sym}
 use mathlib.Core.Logic.{_≢_, ⊎-elim}
-use mathlib.Core.List.{List, [], _++_}
+use mathlib.Core.List.{List, _++_}
 use lib.ListN.{length, drop}
 use borrow.Author.Tests.{lt-ltb, le-ltb, ltb-false}
 use Rattle.rules.specs.Loops.{list, flat}
@@ -14,7 +14,6 @@ use Rattle.rules.specs.Layout.{pileLimit, piles, pileNumber, position}
 use Rattle.rules.specs.Book.{bookAnswer, contentsAnswer, afterContents}
 use Rattle.rules.proofs.Loops.Refusals.{own-refusal, orElse-first, orElse-rest, when-done, when-accepted, when-refused}
 use Rattle.rules.proofs.File.Readable.{book-facts}
-use Rattle.rules.proofs.File.Refused.{contents-refused}
 
 module _ (b : List ℕ) (room : ℕ) where
   pub contents-own : {m : ℕ} → m ≡ bookAnswer b → m ≢ 0 → m ≡ contentsAnswer b room

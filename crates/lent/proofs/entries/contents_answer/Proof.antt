@@ -1,6 +1,5 @@
 -- `contents_answer` asks the book first, and then for room.
 -- Assumes nothing.
-use native.Mathlib.Omega.{arith}
 use mathlib.Core.Path.{_≡_, sym, _∙_}
 use Rattle.rules.specs.Book.{bookAnswer}
 use Rattle.rules.proofs.File.Readable.{BookFacts, book-facts}
