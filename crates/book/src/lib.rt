@@ -35,7 +35,7 @@ ghost use lib.ListN.{length};
 ghost use denote.Ref.{ptr};
 ghost use Rattle.rules.specs.Numbers.{partPlace};
 ghost use Rattle.rules.specs.Pile.{draw, tip};
-ghost use Rattle.rules.specs.Opening.{bufferLength, openingAnswer, afterOpening};
+ghost use Rattle.rules.specs.Opening.{bufferLength, bodySize, openingAnswer, afterOpening};
 ghost use Rattle.rules.specs.Book.{bookAnswer, fetchAnswer, deskAnswer, bodyPart, bodyStart, tonnageReply, rightsReply};
 ghost use Rattle.rules.specs.Record.{recordAt, fetched, deskRecord, deskStart, storeAnswer, afterStore};
 ghost use Rattle.pile.specs.View.{asRecord};
@@ -49,6 +49,19 @@ pub fn length(n: u8, p: u8) -> usize
         return 0;
     }
     body_at(n as usize, p as usize, p as usize)
+}
+
+// How long a body of n desks is: 0 where n is out of range.
+pub fn body_size(n: u8) -> usize
+    ensures { λ r. ⌜ r ≡ bodySize n ⌝ }
+{
+    if n < 1 {
+        return 0;
+    }
+    if Pile::DESKS < n {
+        return 0;
+    }
+    body_length(n as usize)
 }
 
 // Opens a book of n desks and p piles in a lent buffer, from a list of each pile's number, floor, top and shares; refused with 2, 3, 4, 5 or 8.
@@ -97,14 +110,12 @@ pub fn pile_at(book: &[u8], position: u32) -> Pile
         return Pile::zero();
     }
     let n = book[1];
-    if n < 1 {
-        return Pile::zero();
-    }
-    if Pile::DESKS < n {
+    let size = body_size(n);
+    if size == 0 {
         return Pile::zero();
     }
     let at = position as usize;
-    if book.len() < at + body_length(n as usize) {
+    if book.len() < at + size {
         return Pile::zero();
     }
     load(book, n, at)

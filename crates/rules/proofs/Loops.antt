@@ -1,5 +1,5 @@
 -- Loops and lists: nothing here knows the book.
--- Read Logic, Every and Refusals for what a test or an answer tells; Sums; then Ranges, Pieces, Parts and Sets for lists made of pieces.
+-- Read Logic, Every and Refusals for what a test or an answer tells; Sums; then Ranges, Pieces, Parts, Sets and Partly for lists made of pieces.
 pub mod Logic
 pub mod Every
 pub mod Refusals
@@ -8,3 +8,4 @@ pub mod Ranges
 pub mod Pieces
 pub mod Parts
 pub mod Sets
+pub mod Partly

@@ -6,10 +6,10 @@ use mathlib.Core.List.{List}
 use lib.ListN.{length, getD}
 use lib.Dec.{leb, ltb, eqb}
 use lib.Seq.{sets}
-use Rattle.rules.specs.Loops.{_and_, every}
+use Rattle.rules.specs.Loops.{_and_, between, every}
 use Rattle.rules.specs.Refusals.{_when_, _orElse_, first, done}
 use Rattle.rules.specs.Pile.{Pile, openingLawful}
-use Rattle.rules.specs.Layout.{pileNumberLimit, column, bookLength, bookBytes, sizesInRange}
+use Rattle.rules.specs.Layout.{deskLimit, pileNumberLimit, column, bodyLength, bookLength, bookBytes, sizesInRange}
 
 -- pile numbers are 1 to 65,535, strictly rising: each is above the one before it, the first above 0
 abbrev pub previous : (ℕ → ℕ) → ℕ → ℕ
@@ -36,6 +36,10 @@ givenPile n l k =
 -- what a buffer for a book of n desks and p piles must hold; 0 where there is no such book
 unfoldable pub bufferLength : ℕ → ℕ → ℕ
 bufferLength n p = cond (sizesInRange n p) (bookLength n p) 0
+
+-- how long a body of n desks is; 0 where no book has n desks
+unfoldable pub bodySize : ℕ → ℕ
+bodySize n = cond (between 1 deskLimit n) (bodyLength n) 0
 
 -- "Opening": 2, 3, 4, 5 by pile, and 8 where the lent output has less room than the book needs
 unfoldable pub openingAnswer : ℕ → ℕ → List ℕ → ℕ → ℕ

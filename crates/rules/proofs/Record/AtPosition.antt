@@ -3,15 +3,16 @@
 use Prim.Native.Nat.{ℕ, _+_, _≤_, _<_}
 use mathlib.Core.Path.{_≡_, ap, sym, _∙_}
 use mathlib.Core.Bool.{Bool, cond}
-use mathlib.Core.Logic.{_⊎_, ⊎-elim}
 use mathlib.Core.List.{List}
 use lib.ListN.{length}
 use borrow.Author.Tests.{le-leb, lt-leb}
 use Rattle.rules.specs.Loops.{between}
 use Rattle.rules.specs.Layout.{deskLimit, bodyView, bodyLength, desks, pileOf, position}
+use Rattle.rules.specs.Opening.{bodySize}
 use Rattle.rules.specs.Book.{place, fetchAnswer}
 use Rattle.rules.specs.Record.{Record, zeroRecord, recordOf, recordAt, fetched}
 use Rattle.rules.proofs.Loops.Logic.{and-both, and-left-fails, and-right-fails}
+use Rattle.rules.proofs.File.BodySize.{no-size}
 use Rattle.rules.proofs.File.Readable.{book-facts}
 use Rattle.rules.proofs.Record.RoundTrip.{body-in, fetched-readable, fetched-place, fetched-is}
 
@@ -23,10 +24,9 @@ module _ (b : List ℕ) (at : ℕ) where
   unfolding recordAt between
   record-there least most within = ap there (and-both (and-both (le-leb _ _ least) (le-leb _ _ most)) (le-leb _ _ within))
 
-  pub no-desks : (desks b < 1) ⊎ (deskLimit < desks b) → recordAt b at ≡ zeroRecord
-  unfolding recordAt between
-  no-desks h =
-      ap there (and-left-fails (⊎-elim (λ low. and-left-fails (lt-leb _ _ low) _) (λ high. and-right-fails _ (lt-leb _ _ high)) h) _)
+  pub no-desks : bodySize (desks b) ≡ 0 → recordAt b at ≡ zeroRecord
+  unfolding recordAt
+  no-desks e = ap there (and-left-fails (no-size (desks b) e) _)
 
   pub no-body : length b < at + bodyLength (desks b) → recordAt b at ≡ zeroRecord
   unfolding recordAt

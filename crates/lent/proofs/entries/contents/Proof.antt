@@ -53,8 +53,8 @@ use Rattle.rules.specs.Layout.{pileNumber, position}
 use Rattle.rules.specs.Book.{contentsAnswer, afterContents}
 use Rattle.lent.specs.Entries.{entryOf}
 use Rattle.lent.specs.declared.entries.Entry.{Entry}
-use Rattle.lent.proofs.Filled.{filled, filled-within, contents-filled}
-use Rattle.lent.proofs.Partly.{partly, partly-none, length-partly, partly-next}
+use Rattle.rules.proofs.File.Contents.{filled, filled-within, contents-filled}
+use Rattle.rules.proofs.Loops.Partly.{partly, partly-none, length-partly, partly-next}
 use Rattle.lent.proofs.Passed.{Shared, token, passes, returned}
 use Rattle.lent.proofs.entries.Entry as T
 use Rattle.lent.proofs.entries.Entry.Laws as T′

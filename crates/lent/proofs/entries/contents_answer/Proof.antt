@@ -4,7 +4,7 @@ use mathlib.Core.Path.{_≡_, sym, _∙_}
 use Rattle.rules.specs.Book.{bookAnswer}
 use Rattle.rules.proofs.File.Readable.{BookFacts, book-facts}
 use borrow.Author.Needs.{needs}
-use Rattle.lent.proofs.Filled.{contents-own, contents-8, contents-0}
+use Rattle.rules.proofs.File.Contents.{contents-own, contents-8, contents-0}
 use Rattle.lent.proofs.entries.contents_answer.Statement.{statement}
 use Rattle.lent.proofs.entries.contents_answer.Tie as tie
 

@@ -1,0 +1,166 @@
+//! Times the library beside a plain and a specialised Rust version of the same
+//! functions, under the same promises and on the same buffers.
+//!
+//!     cargo bench --bench bench            a table in Markdown
+//!     cargo bench --bench bench -- take    lines with "take" in their name
+//!     cargo bench --bench bench -- 8x32    lines for eight desks, 32 piles
+//!
+//! First all three must agree on every prepared input.
+
+mod books;
+mod clock;
+mod plain;
+mod specialised;
+mod versions;
+
+use books::{Books, Size};
+use clock::{Clock, Lent, Timing, Timings};
+use versions::{Version, VERSIONS};
+
+const SIZES: [Size; 4] = [
+    Size { desks: 1, piles: 1 },
+    Size { desks: 3, piles: 1 },
+    Size { desks: 3, piles: 8 },
+    Size {
+        desks: 8,
+        piles: 32,
+    },
+];
+
+/// What is done with each case: first all are compared, then those wanted are
+/// timed.
+enum Pass {
+    Agree,
+    Time { filter: String },
+}
+
+impl Pass {
+    /// A case: its name, its book, whether it changes the book, the answer it
+    /// has to give, and the call.
+    fn case(
+        &self,
+        name: &str,
+        size: &Size,
+        book: &[u8],
+        changes: bool,
+        answer: u8,
+        call: impl Fn(&Version, &mut [u8], &mut Lent) -> u8,
+    ) {
+        let name = format!("{name}, {} × {}", size.desks, size.piles);
+        // Nothing that a call should write is there already.
+        let lent = Lent {
+            number: u32::MAX,
+            record: [u32::MAX; 163],
+        };
+        match self {
+            Pass::Agree => agree(&name, book, lent, changes, answer, call),
+            Pass::Time { filter } if name.replace(" × ", "x").contains(filter) => {
+                let timings = Clock::new(book, lent, changes, call).time();
+                line(&name, book.len(), timings);
+            }
+            Pass::Time { .. } => {}
+        }
+    }
+}
+
+fn agree(
+    name: &str,
+    book: &[u8],
+    lent: Lent,
+    changes: bool,
+    answer: u8,
+    call: impl Fn(&Version, &mut [u8], &mut Lent) -> u8,
+) {
+    let [ours, plain, specialised] = VERSIONS.each_ref().map(|version| {
+        let (mut after, mut lent) = (book.to_vec(), lent.clone());
+        let given = call(version, &mut after, &mut lent);
+        assert_eq!(given, answer, "{name}: {}", version.name);
+        assert_eq!(after != book, changes, "{name}: {}", version.name);
+        (after, lent)
+    });
+    assert!(plain == specialised, "{name}: specialised differs");
+    assert!(plain == ours, "{name}: ours differs");
+}
+
+fn cases(pass: &Pass, size: &Size) {
+    let (desk, pile) = (size.desk(), size.pile());
+    let Books {
+        older,
+        newer,
+        newer_elsewhere,
+        short,
+    } = books::prepare(size);
+    let mut record = [0; 163];
+    assert_eq!(plain::fetch(&newer, pile, &mut record), 0);
+
+    pass.case("check", size, &newer, false, 0, |v, book, _| {
+        (v.check)(book)
+    });
+    pass.case("tip, accepted", size, &newer, true, 0, |v, book, _| {
+        (v.tip)(book, desk, pile, 1_000)
+    });
+    pass.case("tip, refused", size, &short, false, 14, |v, book, _| {
+        (v.tip)(book, desk, pile, 1_000)
+    });
+    // A single desk has no row that a copy may have later.
+    if size.desks > 1 {
+        pass.case("take, all rows", size, &older, true, 0, |v, book, _| {
+            (v.take)(book, &newer_elsewhere, desk)
+        });
+    }
+    pass.case("take, no row", size, &newer, false, 0, |v, book, _| {
+        (v.take)(book, &older, desk)
+    });
+    pass.case("fetch", size, &newer, false, 0, |v, book, lent| {
+        (v.fetch)(book, pile, &mut lent.record)
+    });
+    pass.case("store", size, &older, true, 0, |v, book, _| {
+        (v.store)(book, pile, &record)
+    });
+    pass.case("tonnage", size, &newer, false, 0, |v, book, lent| {
+        (v.tonnage)(book, pile, &mut lent.number)
+    });
+    pass.case("draw rights", size, &newer, false, 0, |v, book, lent| {
+        (v.draw_rights)(book, desk, pile, &mut lent.number)
+    });
+}
+
+fn line(name: &str, length: usize, timings: Timings) {
+    let cell = |timing: &Timing| {
+        let spread = format!("({:.0} %)", 100.0 * timing.spread);
+        format!("{:.1} {spread:>6}", timing.median)
+    };
+    let [ours, plain, specialised] = &timings.each;
+    let [by_plain, by_specialised] = timings.ratios;
+    println!(
+        "| {name:<22} | {:>16} | {:>16} | {:>16} | {by_plain:>10.2} | {by_specialised:>16.2} | {:>9.3} |",
+        cell(ours),
+        cell(plain),
+        cell(specialised),
+        ours.median / length as f64,
+    );
+}
+
+fn main() {
+    for size in &SIZES {
+        cases(&Pass::Agree, size);
+    }
+    println!("All three versions agree on the prepared inputs.\n");
+    if cfg!(debug_assertions) {
+        println!("Not timed: this is not a release build.");
+        return;
+    }
+
+    // Cargo passes flags of its own; the first other argument is the filter.
+    let filter = std::env::args().skip(1).find(|arg| !arg.starts_with('-'));
+    let pass = Pass::Time {
+        filter: filter.unwrap_or_default(),
+    };
+    println!("Nanoseconds a call, by desks × piles: median (interquartile range).");
+    println!("Ratios are medians over rounds; a byte is one of the book.\n");
+    println!("| call | ours | plain | specialised | ours/plain | ours/specialised | ns a byte |");
+    println!("|---|--:|--:|--:|--:|--:|--:|");
+    for size in &SIZES {
+        cases(&pass, size);
+    }
+}

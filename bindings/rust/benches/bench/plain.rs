@@ -1,0 +1,451 @@
+//! Document 01's functions in plain Rust, under the library's promises: every
+//! input is answered, the whole book is checked at every call, the first
+//! refusal in table order is given, and a refused call changes nothing.
+//!
+//! The bytes are read in place, n is a run-time value and nothing is
+//! allocated. A check looks at each number once.
+
+const MOST_DESKS: usize = 8;
+const MOST_PILES: usize = 32;
+const MOST_TOP: u32 = 10_000_000;
+const MOST_TALLY: u32 = 1_000_000_000;
+const MOST_AMOUNT: u32 = 1_000;
+/// The numbers of a pile record: n, then a body of eight desks.
+const RECORD: usize = 163;
+
+const TIPPED: usize = 0;
+const DRAWN: usize = 1;
+const GIVES: usize = 2;
+
+/// The head of a book. All lengths and positions follow from it.
+#[derive(Clone, Copy, PartialEq)]
+struct Head {
+    desks: usize,
+    piles: usize,
+}
+
+impl Head {
+    fn new(desks: u8, piles: u8) -> Result<Head, u8> {
+        let (desks, piles) = (usize::from(desks), usize::from(piles));
+        if (1..=MOST_DESKS).contains(&desks) && (1..=MOST_PILES).contains(&piles) {
+            Ok(Head { desks, piles })
+        } else {
+            Err(2)
+        }
+    }
+
+    /// Bytes of a row, and of an opening, which has as many numbers.
+    fn row(self) -> usize {
+        8 * (self.desks + 1)
+    }
+
+    fn body(self) -> usize {
+        self.row() * (self.desks + 1)
+    }
+
+    /// Where body k starts.
+    fn position(self, k: usize) -> usize {
+        4 + 6 * self.piles + k * self.body()
+    }
+
+    fn length(self) -> usize {
+        self.position(self.piles)
+    }
+
+    /// Where the row of a desk starts in a body.
+    fn row_position(self, desk: usize) -> usize {
+        self.row() * (desk + 1)
+    }
+
+    /// Where the body of a pile starts, in a book already checked.
+    fn find(self, book: &[u8], pile: u16) -> Result<usize, u8> {
+        let contents = &book[4..self.position(0)];
+        contents
+            .chunks_exact(6)
+            .position(|entry| u16::from_le_bytes([entry[0], entry[1]]) == pile)
+            .map(|k| self.position(k))
+            .ok_or(10)
+    }
+}
+
+#[derive(Clone, Copy)]
+enum Side {
+    Draw,
+    Tip,
+}
+
+/// The number at a place, counted in numbers and not in bytes.
+fn number(bytes: &[u8], place: usize) -> u32 {
+    let bytes = &bytes[4 * place..4 * place + 4];
+    u32::from_le_bytes([bytes[0], bytes[1], bytes[2], bytes[3]])
+}
+
+fn write(bytes: &mut [u8], place: usize, value: u32) {
+    bytes[4 * place..4 * place + 4].copy_from_slice(&value.to_le_bytes());
+}
+
+fn answer(result: Result<(), u8>) -> u8 {
+    result.err().unwrap_or(0)
+}
+
+/// Checks the opening and the rows of `width` desks, of which those past n are
+/// unused. A body is as wide as it has desks, a pile record always eight.
+fn lawful<T: Copy>(
+    n: usize,
+    width: usize,
+    numbers: &[T],
+    read: impl Fn(T) -> u32,
+) -> Result<(), u8> {
+    let (opening, rows) = numbers.split_at(2 + 2 * width);
+    let (floor, top) = (read(opening[0]), read(opening[1]));
+    let mut draw = [0i64; MOST_DESKS];
+    let mut tip = [0i64; MOST_DESKS];
+    let mut shares = 0;
+    for desk in 0..width {
+        draw[desk] = i64::from(read(opening[2 + desk]));
+        tip[desk] = i64::from(read(opening[2 + width + desk]));
+        shares += draw[desk] + tip[desk];
+        if desk >= n && (draw[desk] | tip[desk]) != 0 {
+            return Err(5);
+        }
+    }
+    if floor > top || top > MOST_TOP || shares != i64::from(top - floor) {
+        return Err(5);
+    }
+
+    for (desk, row) in rows.chunks_exact(2 + 2 * width).enumerate() {
+        let (tipped, drawn) = (read(row[TIPPED]), read(row[DRAWN]));
+        let most = if desk < n { MOST_TALLY } else { 0 };
+        if tipped > most || drawn > most {
+            return Err(6);
+        }
+        let (draw_gives, tip_gives) = row[GIVES..].split_at(width);
+        let (mut draw_made, mut tip_made) = (0, 0);
+        for (receiver, (&draw_give, &tip_give)) in draw_gives.iter().zip(tip_gives).enumerate() {
+            let (draw_give, tip_give) = (read(draw_give), read(tip_give));
+            let allowed = receiver < n && receiver != desk;
+            if draw_give.max(tip_give) > if allowed { most } else { 0 } {
+                return Err(6);
+            }
+            draw[receiver] += i64::from(draw_give);
+            tip[receiver] += i64::from(tip_give);
+            draw_made += i64::from(draw_give);
+            tip_made += i64::from(tip_give);
+        }
+        let gain = i64::from(tipped) - i64::from(drawn);
+        draw[desk] += gain - draw_made;
+        tip[desk] -= gain + tip_made;
+    }
+
+    if draw.iter().chain(&tip).any(|&rights| rights < 0) {
+        return Err(7);
+    }
+    Ok(())
+}
+
+fn checked(book: &[u8]) -> Result<Head, u8> {
+    if book.len() < 4 {
+        return Err(1);
+    }
+    if book[0] != 1 || book[3] != 0 {
+        return Err(2);
+    }
+    let head = Head::new(book[1], book[2])?;
+    if book.len() != head.length() {
+        return Err(3);
+    }
+
+    let (contents, bodies) = book[4..].split_at(6 * head.piles);
+    let mut last = 0;
+    for (k, entry) in contents.chunks_exact(6).enumerate() {
+        let pile = u16::from_le_bytes([entry[0], entry[1]]);
+        let position = number(&entry[2..], 0) as usize;
+        if pile <= last || position != head.position(k) {
+            return Err(4);
+        }
+        last = pile;
+    }
+    for body in bodies.chunks_exact(head.body()) {
+        let numbers = body.as_chunks::<4>().0;
+        lawful(head.desks, head.desks, numbers, u32::from_le_bytes)?;
+    }
+    Ok(head)
+}
+
+/// The rights of a desk, in a body already checked: 0 to 10,000,000.
+fn rights(body: &[u8], n: usize, desk: usize, side: Side) -> u32 {
+    let row = (2 + 2 * n) * (desk + 1);
+    let (share, gain, loss) = match side {
+        Side::Draw => (2, TIPPED, DRAWN),
+        Side::Tip => (2 + n, DRAWN, TIPPED),
+    };
+    let at = |place| i64::from(number(body, place));
+    let mut rights = at(share + desk) + at(row + gain) - at(row + loss);
+    for other in 0..n {
+        rights += at((2 + 2 * n) * (other + 1) + share + desk);
+        rights -= at(row + share + other);
+    }
+    rights as u32
+}
+
+fn query(book: &[u8], desk: u8, pile: u16, side: Side) -> Result<u32, u8> {
+    let head = checked(book)?;
+    let desk = usize::from(desk);
+    if desk >= head.desks {
+        return Err(11);
+    }
+    let position = head.find(book, pile)?;
+    let body = &book[position..position + head.body()];
+    Ok(rights(body, head.desks, desk, side))
+}
+
+/// An act: a give where there is a receiver, otherwise a tip or a draw. It
+/// needs rights of its side.
+fn act(
+    book: &mut [u8],
+    desk: u8,
+    pile: u16,
+    side: Side,
+    receiver: Option<u8>,
+    amount: u32,
+) -> Result<(), u8> {
+    let head = checked(book)?;
+    let (n, desk) = (head.desks, usize::from(desk));
+    if desk >= n {
+        return Err(11);
+    }
+    let position = head.find(book, pile)?;
+    let place = match (side, receiver.map(usize::from)) {
+        (_, Some(receiver)) if receiver >= n || receiver == desk => return Err(12),
+        (Side::Tip, None) => TIPPED,
+        (Side::Draw, None) => DRAWN,
+        (Side::Draw, Some(receiver)) => GIVES + receiver,
+        (Side::Tip, Some(receiver)) => GIVES + n + receiver,
+    };
+    if amount == 0 || amount > MOST_AMOUNT {
+        return Err(13);
+    }
+    let body = &mut book[position..position + head.body()];
+    if rights(body, n, desk, side) < amount {
+        return Err(14);
+    }
+    let row = &mut body[head.row_position(desk)..];
+    let tally = number(row, place) + amount;
+    if tally > MOST_TALLY {
+        return Err(15);
+    }
+    write(row, place, tally);
+    Ok(())
+}
+
+/// How the copy's row stands to the taker's own.
+enum Standing {
+    Earlier,
+    Later,
+    Split,
+}
+
+fn standing(own: &[u8], copy: &[u8]) -> Standing {
+    let (mut own_ahead, mut copy_ahead) = (false, false);
+    for place in 0..own.len() / 4 {
+        let (own, copy) = (number(own, place), number(copy, place));
+        own_ahead |= own > copy;
+        copy_ahead |= copy > own;
+    }
+    match (own_ahead, copy_ahead) {
+        (true, true) => Standing::Split,
+        (false, true) => Standing::Later,
+        // Of two alike rows the own one stays.
+        _ => Standing::Earlier,
+    }
+}
+
+fn taken(own: &mut [u8], copy: &[u8], desk: u8) -> Result<(), u8> {
+    let head = checked(own)?;
+    let copy_head = checked(copy).map_err(|refusal| refusal + 20)?;
+    let desk = usize::from(desk);
+    if desk >= head.desks {
+        return Err(11);
+    }
+    // Heads and contents are checked, so that their bytes are equal where n
+    // and the pile numbers are.
+    let bodies = head.position(0);
+    if head != copy_head || own[..bodies] != copy[..bodies] {
+        return Err(30);
+    }
+    let (own, copy) = (&mut own[bodies..], &copy[bodies..]);
+    for (own, copy) in own
+        .chunks_exact(head.body())
+        .zip(copy.chunks_exact(head.body()))
+    {
+        if own[..head.row()] != copy[..head.row()] {
+            return Err(30);
+        }
+    }
+
+    // Nothing may be written before the last pile is compared, so the later
+    // rows are marked first: a bit for each desk, a byte for each pile.
+    let mut later = [0u8; MOST_PILES];
+    for (pile, later) in later[..head.piles].iter_mut().enumerate() {
+        for row in 0..head.desks {
+            let at = pile * head.body() + head.row_position(row);
+            let range = at..at + head.row();
+            match standing(&own[range.clone()], &copy[range]) {
+                Standing::Split => return Err(31),
+                Standing::Later if row == desk => return Err(32),
+                Standing::Later => *later |= 1 << row,
+                Standing::Earlier => {}
+            }
+        }
+    }
+    for (pile, later) in later[..head.piles].iter().enumerate() {
+        for row in (0..head.desks).filter(|row| later >> row & 1 == 1) {
+            let at = pile * head.body() + head.row_position(row);
+            own[at..at + head.row()].copy_from_slice(&copy[at..at + head.row()]);
+        }
+    }
+    Ok(())
+}
+
+fn opened(desks: u8, piles: u8, list: &[u32], out: &mut [u8]) -> Result<(), u8> {
+    let head = Head::new(desks, piles)?;
+    let n = head.desks;
+    if list.len() != head.piles * (3 + 2 * n) {
+        return Err(3);
+    }
+    let piles = list.chunks_exact(3 + 2 * n);
+    let mut last = 0;
+    for pile in piles.clone() {
+        if pile[0] <= last || pile[0] > u32::from(u16::MAX) {
+            return Err(4);
+        }
+        last = pile[0];
+    }
+    for pile in piles.clone() {
+        let shares: u64 = pile[3..].iter().map(|&share| u64::from(share)).sum();
+        let (floor, top) = (pile[1], pile[2]);
+        if floor > top || top > MOST_TOP || shares != u64::from(top - floor) {
+            return Err(5);
+        }
+    }
+    let book = out.get_mut(..head.length()).ok_or(8)?;
+
+    book[..4].copy_from_slice(&[1, desks, head.piles as u8, 0]);
+    for (k, pile) in piles.enumerate() {
+        let (entry, position) = (4 + 6 * k, head.position(k));
+        book[entry..entry + 2].copy_from_slice(&(pile[0] as u16).to_le_bytes());
+        write(&mut book[entry + 2..], 0, position as u32);
+        let (opening, rows) = book[position..position + head.body()].split_at_mut(head.row());
+        for (place, &value) in pile[1..].iter().enumerate() {
+            write(opening, place, value);
+        }
+        rows.fill(0);
+    }
+    Ok(())
+}
+
+/// The place in a pile record of a body's number: the record has eight
+/// columns of each kind, of which n are used.
+fn record_place(n: usize, row: usize, column: usize) -> usize {
+    let unused = if column < 2 + n { 0 } else { MOST_DESKS - n };
+    1 + (2 + 2 * MOST_DESKS) * row + column + unused
+}
+
+fn fetched(book: &[u8], pile: u16, record: &mut [u32]) -> Result<(), u8> {
+    let head = checked(book)?;
+    let position = head.find(book, pile)?;
+    let record = record.get_mut(..RECORD).ok_or(8)?;
+    record.fill(0);
+    record[0] = head.desks as u32;
+    let body = &book[position..position + head.body()];
+    for (row, bytes) in body.chunks_exact(head.row()).enumerate() {
+        for column in 0..2 + 2 * head.desks {
+            record[record_place(head.desks, row, column)] = number(bytes, column);
+        }
+    }
+    Ok(())
+}
+
+fn stored(book: &mut [u8], pile: u16, record: &[u32]) -> Result<(), u8> {
+    let head = checked(book)?;
+    let position = head.find(book, pile)?;
+    if record.len() != RECORD {
+        return Err(3);
+    }
+    let n = record[0] as usize;
+    if !(1..=MOST_DESKS).contains(&n) {
+        return Err(2);
+    }
+    lawful(n, MOST_DESKS, &record[1..], |number| number)?;
+    let columns = 2 + 2 * n;
+    let body = &mut book[position..position + head.body()];
+    if n != head.desks
+        || (0..columns).any(|column| number(body, column) != record[record_place(n, 0, column)])
+    {
+        return Err(30);
+    }
+    for (row, bytes) in body.chunks_exact_mut(head.row()).enumerate().skip(1) {
+        for column in 0..columns {
+            write(bytes, column, record[record_place(n, row, column)]);
+        }
+    }
+    Ok(())
+}
+
+pub fn open(desks: u8, piles: u8, list: &[u32], out: &mut [u8]) -> u8 {
+    answer(opened(desks, piles, list, out))
+}
+
+pub fn check(book: &[u8]) -> u8 {
+    answer(checked(book).map(|_| ()))
+}
+
+pub fn tip(book: &mut [u8], desk: u8, pile: u16, amount: u32) -> u8 {
+    answer(act(book, desk, pile, Side::Tip, None, amount))
+}
+
+pub fn draw(book: &mut [u8], desk: u8, pile: u16, amount: u32) -> u8 {
+    answer(act(book, desk, pile, Side::Draw, None, amount))
+}
+
+pub fn give_draw(book: &mut [u8], desk: u8, pile: u16, receiver: u8, amount: u32) -> u8 {
+    answer(act(book, desk, pile, Side::Draw, Some(receiver), amount))
+}
+
+pub fn give_tip(book: &mut [u8], desk: u8, pile: u16, receiver: u8, amount: u32) -> u8 {
+    answer(act(book, desk, pile, Side::Tip, Some(receiver), amount))
+}
+
+pub fn take(own: &mut [u8], copy: &[u8], desk: u8) -> u8 {
+    answer(taken(own, copy, desk))
+}
+
+pub fn tonnage(book: &[u8], pile: u16, out: &mut u32) -> u8 {
+    let now = checked(book).and_then(|head| {
+        let position = head.find(book, pile)?;
+        let body = &book[position..position + head.body()];
+        let at = |place| i64::from(number(body, place));
+        let now = (0..head.desks).fold(at(0), |now, desk| {
+            let row = head.row_position(desk) / 4;
+            now + at(2 + desk) + at(row + TIPPED) - at(row + DRAWN)
+        });
+        Ok(now as u32)
+    });
+    answer(now.map(|now| *out = now))
+}
+
+pub fn draw_rights(book: &[u8], desk: u8, pile: u16, out: &mut u32) -> u8 {
+    answer(query(book, desk, pile, Side::Draw).map(|rights| *out = rights))
+}
+
+pub fn tip_rights(book: &[u8], desk: u8, pile: u16, out: &mut u32) -> u8 {
+    answer(query(book, desk, pile, Side::Tip).map(|rights| *out = rights))
+}
+
+pub fn fetch(book: &[u8], pile: u16, record: &mut [u32]) -> u8 {
+    answer(fetched(book, pile, record))
+}
+
+pub fn store(book: &mut [u8], pile: u16, record: &[u32]) -> u8 {
+    answer(stored(book, pile, record))
+}

@@ -1,0 +1,114 @@
+//! The functions of include/pitbook.h. A slice passes as its pointer and then its length.
+
+unsafe extern "C" {
+    pub(crate) fn pit_open(
+        desks: u8,
+        piles: u8,
+        list: *const u32,
+        list_length: usize,
+        out: *mut u8,
+        out_length: usize,
+    ) -> u8;
+
+    pub(crate) fn pit_check(book: *const u8, book_length: usize) -> u8;
+
+    pub(crate) fn pit_contents(
+        book: *const u8,
+        book_length: usize,
+        numbers: *mut u32,
+        numbers_length: usize,
+        positions: *mut u32,
+        positions_length: usize,
+    ) -> u8;
+
+    pub(crate) fn pit_body(
+        book: *const u8,
+        book_length: usize,
+        pile: u16,
+        start: *mut usize,
+        length: *mut usize,
+    ) -> u8;
+
+    pub(crate) fn pit_tip(
+        book: *mut u8,
+        book_length: usize,
+        desk: u8,
+        pile: u16,
+        amount: u32,
+    ) -> u8;
+
+    pub(crate) fn pit_draw(
+        book: *mut u8,
+        book_length: usize,
+        desk: u8,
+        pile: u16,
+        amount: u32,
+    ) -> u8;
+
+    pub(crate) fn pit_give_draw(
+        book: *mut u8,
+        book_length: usize,
+        desk: u8,
+        pile: u16,
+        receiver: u8,
+        amount: u32,
+    ) -> u8;
+
+    pub(crate) fn pit_give_tip(
+        book: *mut u8,
+        book_length: usize,
+        desk: u8,
+        pile: u16,
+        receiver: u8,
+        amount: u32,
+    ) -> u8;
+
+    pub(crate) fn pit_take(
+        own: *mut u8,
+        own_length: usize,
+        copy: *const u8,
+        copy_length: usize,
+        desk: u8,
+    ) -> u8;
+
+    pub(crate) fn pit_draw_rights(
+        book: *const u8,
+        book_length: usize,
+        desk: u8,
+        pile: u16,
+        out: *mut u32,
+    ) -> u8;
+
+    pub(crate) fn pit_tip_rights(
+        book: *const u8,
+        book_length: usize,
+        desk: u8,
+        pile: u16,
+        out: *mut u32,
+    ) -> u8;
+
+    pub(crate) fn pit_tonnage(book: *const u8, book_length: usize, pile: u16, out: *mut u32) -> u8;
+
+    pub(crate) fn pit_fetch(
+        book: *const u8,
+        book_length: usize,
+        pile: u16,
+        record: *mut u32,
+        record_length: usize,
+    ) -> u8;
+
+    pub(crate) fn pit_store(
+        book: *mut u8,
+        book_length: usize,
+        pile: u16,
+        record: *const u32,
+        record_length: usize,
+    ) -> u8;
+
+    pub(crate) fn pit_later(
+        first: *const u8,
+        first_length: usize,
+        second: *const u8,
+        second_length: usize,
+    ) -> u8;
+}

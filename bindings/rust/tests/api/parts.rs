@@ -1,0 +1,112 @@
+//! What a book hands out: contents, bodies, records, rows.
+
+use crate::{f, g, two_piles};
+use pitbook::{Entry, RECORD_NUMBERS, Record, Refusal, Row, later_row, row_length};
+
+#[test]
+fn contents_and_bodies() {
+    let book = two_piles();
+    let entries = [(3, 16), (500, 88)];
+    let entries = entries.map(|(number, position)| Entry { number, position });
+    assert_eq!(book.contents().unwrap(), entries);
+    for entry in entries {
+        let at = entry.position as usize;
+        let part = &book.as_bytes()[at..at + 72];
+        // The part of the book itself, and not like bytes elsewhere.
+        assert!(std::ptr::eq(book.body(entry.number).unwrap(), part));
+    }
+    assert_eq!(book.body(4), Err(Refusal::PileAbsent));
+}
+
+#[test]
+fn record_of_g() {
+    let mut want = Record {
+        desks: 3,
+        floor: 10,
+        top: 110,
+        tip_shares: [40, 30, 30, 0, 0, 0, 0, 0],
+        ..Record::default()
+    };
+    want.rows[0] = Row {
+        tipped: 30,
+        drawn: 5,
+        draw_gives: [0, 10, 10, 0, 0, 0, 0, 0],
+        tip_gives: [0; 8],
+    };
+    want.rows[1].tipped = 1;
+    want.rows[1].drawn = 4;
+    want.rows[2].drawn = 2;
+    assert_eq!(g().fetch(7), Ok(want));
+    assert_eq!(g().fetch(8), Err(Refusal::PileAbsent));
+
+    let mut book = f();
+    book.store(7, &want).unwrap();
+    assert_eq!(book, g());
+}
+
+#[test]
+fn records_and_numbers() {
+    let numbers: [u32; RECORD_NUMBERS] = std::array::from_fn(|k| k as u32);
+    let record = Record::from_numbers(&numbers).unwrap();
+    assert_eq!(record.to_numbers(), numbers);
+    assert_eq!((record.desks, record.floor, record.top), (0, 1, 2));
+    assert_eq!((record.draw_shares[0], record.tip_shares[0]), (3, 11));
+    assert_eq!((record.rows[7].tipped, record.rows[7].drawn), (145, 146));
+    assert_eq!(
+        (record.rows[7].draw_gives[0], record.rows[7].tip_gives[7]),
+        (147, 162)
+    );
+    assert_eq!(Record::from_numbers(&[256; RECORD_NUMBERS]), None);
+}
+
+#[test]
+fn refused_stores() {
+    let mut book = f();
+    let lawful = g().fetch(7).unwrap();
+    let mut refused = |pile, change: fn(&mut Record)| {
+        let mut record = lawful;
+        change(&mut record);
+        let refusal = book.store(pile, &record).unwrap_err();
+        assert_eq!(book, f());
+        refusal
+    };
+    assert_eq!(refused(8, |r| r.desks = 0), Refusal::PileAbsent);
+    assert_eq!(refused(7, |r| r.desks = 9), Refusal::HeadWrong);
+    assert_eq!(
+        refused(7, |r| r.tip_shares[3] = 1),
+        Refusal::OpeningUnlawful
+    );
+    assert_eq!(
+        refused(7, |r| r.rows[1].tip_gives[1] = 1),
+        Refusal::TallyWrong
+    );
+    assert_eq!(refused(7, |r| r.rows[3].tipped = 1), Refusal::TallyWrong);
+    assert_eq!(
+        refused(7, |r| r.rows[2].drawn = 11),
+        Refusal::RightsNegative
+    );
+    assert_eq!(refused(7, |r| r.desks = 4), Refusal::OpeningDiffers);
+    // A share of a desk that the book does not have, and that the others make up for.
+    let lost = |r: &mut Record| (r.tip_shares[2], r.tip_shares[3]) = (29, 1);
+    assert_eq!(refused(7, lost), Refusal::OpeningUnlawful);
+    let moved = |r: &mut Record| (r.floor, r.top) = (11, 111);
+    assert_eq!(refused(7, moved), Refusal::OpeningDiffers);
+}
+
+#[test]
+fn later_rows() {
+    let (f, g) = (f(), g());
+    let mut other = f.clone();
+    other.tip(0, 7, 31).unwrap();
+    let row = row_length(3);
+    let [f0, g0, other0] = [&f, &g, &other].map(|book| &book.body(7).unwrap()[row..2 * row]);
+    assert!(std::ptr::eq(later_row(f0, g0).unwrap(), g0));
+    assert!(std::ptr::eq(later_row(g0, f0).unwrap(), g0));
+    let alike = g0.to_vec();
+    assert!(std::ptr::eq(later_row(&alike, g0).unwrap(), &alike[..]));
+    assert_eq!(later_row(g0, other0), None);
+    assert_eq!(later_row(f0, &g0[..row - 8]), None);
+    assert_eq!(later_row(&f0[1..], &g0[1..]), None);
+    assert_eq!(later_row(&[], &[]), None);
+    assert_eq!(later_row(&[0; 80], &[0; 80]), None);
+}

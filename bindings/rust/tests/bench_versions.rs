@@ -1,0 +1,212 @@
+//! The versions that the bench times are under the library's promises: on
+//! lawful and on damaged books all three give the same answers and leave the
+//! same bytes, and a refused call changes nothing.
+
+#[path = "../benches/bench/plain.rs"]
+mod plain;
+mod random_books;
+#[path = "../benches/bench/specialised.rs"]
+mod specialised;
+#[path = "../benches/bench/versions.rs"]
+mod versions;
+
+use random_books::{Case, Random};
+use std::collections::BTreeMap;
+use versions::{Version, VERSIONS};
+
+const SEED: u64 = 0x7017_b00c;
+const CASES: usize = 30_000;
+
+/// What a call may write: the book and the numbers lent beside it.
+#[derive(Clone, PartialEq)]
+struct Lent {
+    book: Vec<u8>,
+    number: u32,
+    numbers: Vec<u32>,
+}
+
+/// The answers seen, by function.
+type Seen = BTreeMap<&'static str, [u32; 33]>;
+
+/// Makes the call with each version and compares.
+fn compare(
+    seen: &mut Seen,
+    case: usize,
+    function: &'static str,
+    lent: &Lent,
+    call: impl Fn(&Version, &mut Lent) -> u8,
+) {
+    let [ours, plain, specialised] = VERSIONS.each_ref().map(|version| {
+        let mut after = lent.clone();
+        let answer = call(version, &mut after);
+        let kept = answer == 0 || after == *lent;
+        assert!(kept, "{function}, case {case}: {} changed", version.name);
+        (answer, after)
+    });
+    let answers = (ours.0, plain.0, specialised.0);
+    let equal = plain == specialised && plain == ours;
+    assert!(
+        equal,
+        "{function}, case {case}: {answers:?} or what was lent"
+    );
+    seen.entry(function).or_insert([0; 33])[usize::from(plain.0)] += 1;
+}
+
+fn compare_all(seen: &mut Seen, k: usize, case: Case) {
+    let Case {
+        book,
+        copy,
+        list,
+        record,
+        desks,
+        piles,
+        desk,
+        pile,
+        receiver,
+        amount,
+        lent_bytes,
+        lent_numbers,
+    } = case;
+    let lent = Lent {
+        book,
+        number: 0xaaaa_aaaa,
+        numbers: vec![0xaaaa_aaaa; lent_numbers],
+    };
+    let mut compare = |function, call: &dyn Fn(&Version, &mut Lent) -> u8| {
+        compare(seen, k, function, &lent, call);
+    };
+
+    compare("check", &|v, l| (v.check)(&l.book));
+    compare("tip", &|v, l| (v.tip)(&mut l.book, desk, pile, amount));
+    compare("draw", &|v, l| (v.draw)(&mut l.book, desk, pile, amount));
+    compare("give draw", &|v, l| {
+        (v.give_draw)(&mut l.book, desk, pile, receiver, amount)
+    });
+    compare("give tip", &|v, l| {
+        (v.give_tip)(&mut l.book, desk, pile, receiver, amount)
+    });
+    compare("take", &|v, l| (v.take)(&mut l.book, &copy, desk));
+    compare("tonnage", &|v, l| (v.tonnage)(&l.book, pile, &mut l.number));
+    compare("draw rights", &|v, l| {
+        (v.draw_rights)(&l.book, desk, pile, &mut l.number)
+    });
+    compare("tip rights", &|v, l| {
+        (v.tip_rights)(&l.book, desk, pile, &mut l.number)
+    });
+    compare("fetch", &|v, l| (v.fetch)(&l.book, pile, &mut l.numbers));
+    compare("store", &|v, l| (v.store)(&mut l.book, pile, &record));
+    compare("open", &|v, l| {
+        l.book.resize(lent_bytes, 0xaa);
+        let before = l.book.clone();
+        let answer = (v.open)(desks, piles, &list, &mut l.book);
+        if answer != 0 {
+            assert!(l.book == before, "open, case {k}: {} changed", v.name);
+            l.book.clone_from(&lent.book);
+        }
+        answer
+    });
+}
+
+/// Every answer of the table, so that no refusal goes without a comparison.
+const ANSWERS: [(&str, &[u8]); 12] = [
+    ("check", &[0, 1, 2, 3, 4, 5, 6, 7]),
+    ("tip", &[0, 1, 2, 3, 4, 5, 6, 7, 10, 11, 13, 14, 15]),
+    ("draw", &[0, 1, 2, 3, 4, 5, 6, 7, 10, 11, 13, 14, 15]),
+    (
+        "give draw",
+        &[0, 1, 2, 3, 4, 5, 6, 7, 10, 11, 12, 13, 14, 15],
+    ),
+    (
+        "give tip",
+        &[0, 1, 2, 3, 4, 5, 6, 7, 10, 11, 12, 13, 14, 15],
+    ),
+    (
+        "take",
+        &[
+            0, 1, 2, 3, 4, 5, 6, 7, 11, 21, 22, 23, 24, 25, 26, 27, 30, 31, 32,
+        ],
+    ),
+    ("tonnage", &[0, 1, 2, 3, 4, 5, 6, 7, 10]),
+    ("draw rights", &[0, 1, 2, 3, 4, 5, 6, 7, 10, 11]),
+    ("tip rights", &[0, 1, 2, 3, 4, 5, 6, 7, 10, 11]),
+    ("fetch", &[0, 1, 2, 3, 4, 5, 6, 7, 8, 10]),
+    ("store", &[0, 1, 2, 3, 4, 5, 6, 7, 10, 30]),
+    ("open", &[0, 2, 3, 4, 5, 8]),
+];
+
+#[test]
+fn all_agree_on_random_books() {
+    println!("seed {SEED:#x}, {CASES} cases");
+    let mut random = Random::new(SEED);
+    let mut seen = Seen::new();
+    for k in 0..CASES {
+        compare_all(&mut seen, k, Case::new(&mut random));
+    }
+    for (function, answers) in ANSWERS {
+        let counts = seen[function];
+        let given: Vec<_> = (0..33).filter(|&a| counts[a] > 0).collect();
+        println!(
+            "{function}: {:?}",
+            given.iter().map(|&a| (a, counts[a])).collect::<Vec<_>>()
+        );
+        let wanted: Vec<_> = answers.iter().map(|&a| usize::from(a)).collect();
+        assert_eq!(given, wanted, "{function}");
+    }
+}
+
+/// Document 01's worked book, cases a to j, with every version.
+#[test]
+fn worked_book() {
+    for v in &VERSIONS {
+        let mut f = vec![0; 138];
+        let list = [7, 10, 110, 0, 0, 0, 40, 30, 30];
+        assert_eq!((v.open)(3, 1, &list, &mut f), 0);
+        let mut g = f.clone();
+        assert_eq!((v.tip)(&mut g, 0, 7, 30), 0);
+        assert_eq!((v.tip)(&mut g, 1, 7, 1), 0);
+        assert_eq!((v.give_draw)(&mut g, 0, 7, 1, 10), 0);
+        assert_eq!((v.give_draw)(&mut g, 0, 7, 2, 10), 0);
+        assert_eq!((v.draw)(&mut g, 0, 7, 5), 0);
+        assert_eq!((v.draw)(&mut g, 1, 7, 4), 0);
+        assert_eq!((v.draw)(&mut g, 2, 7, 2), 0);
+
+        let now = |book: &[u8]| {
+            let mut now = 0;
+            assert_eq!((v.tonnage)(book, 7, &mut now), 0);
+            now
+        };
+        let rights = |book: &[u8], desk| {
+            let (mut draw, mut tip) = (0, 0);
+            assert_eq!((v.draw_rights)(book, desk, 7, &mut draw), 0);
+            assert_eq!((v.tip_rights)(book, desk, 7, &mut tip), 0);
+            (draw, tip)
+        };
+        assert_eq!(now(&g), 30);
+        let all = [rights(&g, 0), rights(&g, 1), rights(&g, 2)];
+        assert_eq!(all, [(5, 15), (7, 33), (8, 32)]);
+
+        assert_eq!(now(&f), 10, "a");
+        assert_eq!((v.draw)(&mut f.clone(), 0, 7, 1), 14, "b");
+        let mut c = f.clone();
+        assert_eq!((v.tip)(&mut c, 0, 7, 40), 0, "c");
+        assert_eq!((now(&c), rights(&c, 0).1), (50, 0), "c");
+        assert_eq!((v.tip)(&mut f.clone(), 0, 7, 41), 14, "d");
+        let mut e = g.clone();
+        assert_eq!((v.give_draw)(&mut e, 0, 7, 1, 5), 0, "e");
+        assert_eq!((rights(&e, 0).0, rights(&e, 1).0), (0, 12), "e");
+        assert_eq!((v.give_draw)(&mut g.clone(), 0, 7, 1, 6), 14, "e");
+        assert_eq!((v.give_draw)(&mut g.clone(), 0, 7, 0, 5), 12, "f");
+        assert_eq!((v.draw)(&mut g.clone(), 0, 7, 0), 13, "g");
+        assert_eq!((v.draw)(&mut g.clone(), 0, 7, 1_001), 13, "g");
+        assert_eq!((v.draw)(&mut g.clone(), 0, 7, 1_000), 14, "g");
+        let mut h = g.clone();
+        assert_eq!((v.take)(&mut h, &f, 0), 0, "h");
+        assert_eq!(h, g, "h");
+        assert_eq!((v.take)(&mut f.clone(), &g, 2), 32, "i");
+        let (mut own, mut copy) = (f.clone(), f.clone());
+        assert_eq!((v.tip)(&mut copy, 0, 7, 30), 0, "j");
+        assert_eq!((v.tip)(&mut own, 0, 7, 10), 0, "j");
+        assert_eq!((v.give_tip)(&mut own, 0, 7, 1, 5), 0, "j");
+        assert_eq!((v.take)(&mut own, &copy, 1), 31, "j");
+    }
+}

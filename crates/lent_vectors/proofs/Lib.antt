@@ -1,0 +1,4 @@
+pub mod Passing
+pub mod OnLocal
+pub mod Handed
+pub mod OnList

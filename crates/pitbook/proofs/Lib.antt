@@ -1,0 +1,7 @@
+pub mod Left
+pub mod Filling
+pub mod ContentsLines
+pub mod BodyTold
+pub mod RecordNumbers
+pub mod StoreLines
+pub mod LaterTold

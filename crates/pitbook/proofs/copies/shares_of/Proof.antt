@@ -1,0 +1,25 @@
+-- `shares_of` copies the list's shares over an array of zeros, whole.
+-- Assumes nothing.
+use native.Mathlib.Omega.{arith}
+use mathlib.Core.Path.{_∙_}
+use borrow.Author.Needs.{needs}
+use Rattle.rules.specs.Record.{sharePlaces}
+use Rattle.pitbook.specs.Numbers.{sharesAt, numbersRecord}
+use Rattle.pitbook.proofs.RecordNumbers.{whole-run}
+use Rattle.pitbook.proofs.copies.shares_of.Statement.{statement}
+use Rattle.pitbook.proofs.copies.shares_of.Tie as tie
+
+slice-aggregate-copy-run : tie.Need-slice-aggregate-copy-run
+slice-aggregate-copy-run c = search needs
+
+copy-run-requires : tie.Need-copy-run-requires
+copy-run-requires c κs = search needs
+
+returns : tie.Need-returns
+unfolding numbersRecord
+returns c =
+    let start = c .before .before .before .before in
+    c .before .copy-run .ensures ∙ whole-run (start .args .numbers .now) sharesAt sharePlaces (omega (arith, start .pre))
+
+pub shares-of-spec : {M : Type 1} → statement M
+shares-of-spec = tie.close (tie.spec slice-aggregate-copy-run copy-run-requires returns)

@@ -1,0 +1,25 @@
+-- `tallies_of` copies the list's tallies over an array of zeros, whole.
+-- Assumes nothing.
+use native.Mathlib.Omega.{arith}
+use mathlib.Core.Path.{_∙_}
+use borrow.Author.Needs.{needs}
+use Rattle.rules.specs.Record.{tallyPlaces}
+use Rattle.pitbook.specs.Numbers.{talliesAt, numbersRecord}
+use Rattle.pitbook.proofs.RecordNumbers.{whole-run}
+use Rattle.pitbook.proofs.copies.tallies_of.Statement.{statement}
+use Rattle.pitbook.proofs.copies.tallies_of.Tie as tie
+
+slice-aggregate-copy-run : tie.Need-slice-aggregate-copy-run
+slice-aggregate-copy-run c = search needs
+
+copy-run-requires : tie.Need-copy-run-requires
+copy-run-requires c κs = search needs
+
+returns : tie.Need-returns
+unfolding numbersRecord
+returns c =
+    let start = c .before .before .before .before in
+    c .before .copy-run .ensures ∙ whole-run (start .args .numbers .now) talliesAt tallyPlaces (omega (arith, start .pre))
+
+pub tallies-of-spec : {M : Type 1} → statement M
+tallies-of-spec = tie.close (tie.spec slice-aggregate-copy-run copy-run-requires returns)

@@ -1,0 +1,4 @@
+pub mod Queries
+pub mod Contents
+pub mod Numbers
+pub mod Later

@@ -1,0 +1,173 @@
+/*
+ * The pit book: a file of stockpiles that the dispatch desks of a quarry keep, as a run of bytes.
+ *
+ * Every function answers with a refusal's number, or with PIT_DONE. The first refusal in the order that stands at a function is
+ * given. A refused call leaves all that it was lent as it was.
+ *
+ * A book, a list or a row goes in as a pointer and its length. Lengths of books and rows count bytes, all others count numbers.
+ *
+ * What the caller owes:
+ * - no pointer is NULL, not even where the length is 0: any address that is aligned for its type will do then;
+ * - length elements stand at the pointer, each with some value, and nobody else writes them during the call, not through a mapped file either;
+ * - what a call may write (a pointer without const) overlaps nothing else that is lent to the same call. Read-only arguments may overlap.
+ *
+ * Every argument that is a number may have any value of its type. No function keeps a pointer, allocates or has a state of its own,
+ * so calls on different books may run at the same time.
+ */
+#ifndef PITBOOK_H
+#define PITBOOK_H
+
+#include <stddef.h>
+#include <stdint.h>
+
+#ifdef __cplusplus
+extern "C" {
+#endif
+
+/* The refusals, by their numbers. */
+enum pit_refusal {
+    PIT_DONE = 0,                /* no refusal */
+    PIT_BOOK_SHORT = 1,          /* fewer than 4 bytes */
+    PIT_HEAD_WRONG = 2,          /* head wrong; number of desks or piles out of range */
+    PIT_LENGTH_WRONG = 3,        /* length not as the head, the sizes or the record want it */
+    PIT_CONTENTS_WRONG = 4,      /* pile number or position wrong, or numbers not rising */
+    PIT_OPENING_UNLAWFUL = 5,    /* opening unlawful, or an unused share not 0 */
+    PIT_TALLY_WRONG = 6,         /* tally over its limit, a give to oneself, or an unused place not 0 */
+    PIT_RIGHTS_NEGATIVE = 7,     /* a desk has spent or given more than it held */
+    PIT_BUFFER_SHORT = 8,        /* what is lent for the result is too short */
+    PIT_PILE_ABSENT = 10,        /* no such pile in the book */
+    PIT_DESK_ABSENT = 11,        /* no such desk in the book */
+    PIT_RECEIVER_WRONG = 12,     /* no such receiver, or the giver itself */
+    PIT_AMOUNT_WRONG = 13,       /* amount 0 or over PIT_AMOUNT_LIMIT */
+    PIT_RIGHTS_SHORT = 14,       /* the desk holds less rights than the amount */
+    PIT_LIMIT_REACHED = 15,      /* the tally would pass PIT_TALLY_LIMIT */
+    PIT_COPY_SHORT = 21,         /* 21 to 27: what 1 to 7 say of a book, of the copy */
+    PIT_COPY_HEAD_WRONG = 22,
+    PIT_COPY_LENGTH_WRONG = 23,
+    PIT_COPY_CONTENTS_WRONG = 24,
+    PIT_COPY_OPENING_UNLAWFUL = 25,
+    PIT_COPY_TALLY_WRONG = 26,
+    PIT_COPY_RIGHTS_NEGATIVE = 27,
+    PIT_OPENING_DIFFERS = 30,    /* number of desks, pile numbers or an opening differ */
+    PIT_ROWS_SPLIT = 31,         /* two rows of one desk differ and neither is later: it acted twice from one old book */
+    PIT_OWN_ROW_BEHIND = 32      /* the copy has a later row of the taker's own desk */
+};
+
+/* What pit_later answers. */
+enum pit_handed_on {
+    PIT_NEITHER_ROW = 0,
+    PIT_FIRST_ROW = 1,
+    PIT_SECOND_ROW = 2
+};
+
+/* Limits: desks and piles of a book, tonnes of an act, tonnes of a tally, tonnes of a top. */
+#define PIT_DESKS 8
+#define PIT_PILES 32
+#define PIT_AMOUNT_LIMIT 1000
+#define PIT_TALLY_LIMIT 1000000000
+#define PIT_TOP_LIMIT 10000000
+
+/* Bytes of a row, of a body and of a book, for 1 to 8 desks and 1 to 32 piles. */
+#define PIT_ROW_LENGTH(desks) ((size_t)8 * ((size_t)(desks) + 1))
+#define PIT_BODY_LENGTH(desks) (PIT_ROW_LENGTH(desks) * ((size_t)(desks) + 1))
+#define PIT_BOOK_LENGTH(desks, piles) ((size_t)4 + (size_t)(piles) * (6 + PIT_BODY_LENGTH(desks)))
+#define PIT_BOOK_LONGEST 20932
+
+/* Numbers of the list that opens a book. */
+#define PIT_LIST_NUMBERS(desks, piles) ((size_t)(piles) * (3 + (size_t)2 * (size_t)(desks)))
+
+/*
+ * A pile's record as 163 numbers, and where each stands: the number of desks, floor, top, 8 draw shares, 8 tip shares, then for each
+ * of 8 desks a row of 18: tipped, drawn, 8 draw gives, 8 tip gives. All that belongs to desks past the number of desks is 0.
+ */
+#define PIT_RECORD_NUMBERS 163
+#define PIT_RECORD_DESKS 0
+#define PIT_RECORD_FLOOR 1
+#define PIT_RECORD_TOP 2
+#define PIT_RECORD_DRAW_SHARE(desk) (3 + (desk))
+#define PIT_RECORD_TIP_SHARE(desk) (11 + (desk))
+#define PIT_RECORD_TIPPED(desk) (19 + 18 * (desk))
+#define PIT_RECORD_DRAWN(desk) (20 + 18 * (desk))
+#define PIT_RECORD_DRAW_GIVE(desk, receiver) (21 + 18 * (desk) + (receiver))
+#define PIT_RECORD_TIP_GIVE(desk, receiver) (29 + 18 * (desk) + (receiver))
+
+/*
+ * Opens a book: writes it to the start of out, with all tallies 0. The list has for each pile, by rising number, its number, floor,
+ * top, draw shares and tip shares. Bytes of out past the book stay.
+ * Answers 2 for the number of desks or piles, 3 for the list's length, 4 for the pile numbers, 5 for an opening, 8 for out, or 0.
+ */
+uint8_t pit_open(uint8_t desks, uint8_t piles, const uint32_t *list, size_t list_length, uint8_t *out, size_t out_length);
+
+/* Checks a book, all of it. Answers 1 to 7, or 0. */
+uint8_t pit_check(const uint8_t *book, size_t book_length);
+
+/*
+ * Fills in the contents in file order: entry k's pile number to numbers[k] and where its body starts in the book to positions[k].
+ * Entries past the number of piles, the book's third byte, stay; PIT_PILES entries are always enough.
+ * Answers 1 to 7 for the book, 8 where either list is shorter than the contents, or 0.
+ */
+uint8_t pit_contents(const uint8_t *book, size_t book_length, uint32_t *numbers, size_t numbers_length, uint32_t *positions,
+                     size_t positions_length);
+
+/*
+ * Finds a pile's body, a part of the book: length bytes from book + start.
+ * Answers 1 to 7 for the book, 10, or 0; start and length stay where it is not 0.
+ */
+uint8_t pit_body(const uint8_t *book, size_t book_length, uint16_t pile, size_t *start, size_t *length);
+
+/*
+ * A desk tips or draws: adds the amount to its tipped or drawn tally of the pile. All other bytes stay.
+ * Answers 1 to 7 for the book, 11, 10, 13, 14, 15, or 0.
+ */
+uint8_t pit_tip(uint8_t *book, size_t book_length, uint8_t desk, uint16_t pile, uint32_t amount);
+uint8_t pit_draw(uint8_t *book, size_t book_length, uint8_t desk, uint16_t pile, uint32_t amount);
+
+/*
+ * A desk gives draw rights or tip rights to another: adds the amount to its give to that receiver. All other bytes stay.
+ * Answers 1 to 7 for the book, 11, 10, 12, 13, 14, 15, or 0.
+ */
+uint8_t pit_give_draw(uint8_t *book, size_t book_length, uint8_t desk, uint16_t pile, uint8_t receiver, uint32_t amount);
+uint8_t pit_give_tip(uint8_t *book, size_t book_length, uint8_t desk, uint16_t pile, uint8_t receiver, uint32_t amount);
+
+/*
+ * A desk takes another's copy into its own book: for each pile and desk the later row stands there afterwards.
+ * Answers 1 to 7 for the own book, 21 to 27 for the copy, 11, 30, then by pile and by desk 31 or 32, or 0.
+ */
+uint8_t pit_take(uint8_t *own, size_t own_length, const uint8_t *copy, size_t copy_length, uint8_t desk);
+
+/*
+ * A desk's draw rights or tip rights of a pile, in tonnes, to out.
+ * Answers 1 to 7 for the book, 11, 10, or 0; out stays where it is not 0.
+ */
+uint8_t pit_draw_rights(const uint8_t *book, size_t book_length, uint8_t desk, uint16_t pile, uint32_t *out);
+uint8_t pit_tip_rights(const uint8_t *book, size_t book_length, uint8_t desk, uint16_t pile, uint32_t *out);
+
+/*
+ * A pile's tonnage now, by this book, to out.
+ * Answers 1 to 7 for the book, 10, or 0; out stays where it is not 0.
+ */
+uint8_t pit_tonnage(const uint8_t *book, size_t book_length, uint16_t pile, uint32_t *out);
+
+/*
+ * Fetches a pile's record, as PIT_RECORD_NUMBERS numbers; those past them stay.
+ * Answers 1 to 7 for the book, 10, 8 where the record is shorter, or 0.
+ */
+uint8_t pit_fetch(const uint8_t *book, size_t book_length, uint16_t pile, uint32_t *record, size_t record_length);
+
+/*
+ * Stores a record of the same opening as the pile's body. All bytes outside that body stay.
+ * Answers 1 to 7 for the book, 10, 3 where the length is not PIT_RECORD_NUMBERS, 2, 5, 6 or 7 for the record, 30, or 0.
+ */
+uint8_t pit_store(uint8_t *book, size_t book_length, uint16_t pile, const uint32_t *record, size_t record_length);
+
+/*
+ * Which of two rows of a desk is later. Answers PIT_FIRST_ROW, also where they are alike, or PIT_SECOND_ROW; and PIT_NEITHER_ROW
+ * where they are split, differ in length, or have a length other than PIT_ROW_LENGTH of 1 to 8 desks. This is no refusal's number.
+ */
+uint8_t pit_later(const uint8_t *first, size_t first_length, const uint8_t *second, size_t second_length);
+
+#ifdef __cplusplus
+}
+#endif
+
+#endif

@@ -1,0 +1,66 @@
+/* Takes past document 01's letters: what comes in, from every pile, and what is refused before anything is written. */
+#include <string.h>
+
+#include "expect.h"
+
+/* Desk 1 has tipped and takes desk 0's acts; a repeated copy counts once. */
+static void takes_done(void)
+{
+    uint8_t own[TWO_PILES_LENGTH], copy[TWO_PILES_LENGTH];
+    uint32_t tonnes = 0;
+    open_two_piles(own);
+    open_two_piles(copy);
+    EXPECT(pit_tip(own, sizeof own, 1, 3, 2), PIT_DONE);
+    EXPECT(pit_tip(copy, sizeof copy, 0, 3, 30), PIT_DONE);
+    EXPECT(pit_draw(copy, sizeof copy, 0, 500, 4), PIT_DONE);
+    for (int k = 0; k < 2; k++) {
+        EXPECT(pit_take(own, sizeof own, copy, sizeof copy, 1), PIT_DONE);
+        EXPECT(pit_tonnage(own, sizeof own, 3, &tonnes), PIT_DONE);
+        EXPECT(tonnes, 62);
+        EXPECT(pit_tonnage(own, sizeof own, 500, &tonnes), PIT_DONE);
+        EXPECT(tonnes, 6);
+    }
+    /* Desk 0 takes all that back, and then both books are equal. */
+    EXPECT(pit_take(copy, sizeof copy, own, sizeof own, 0), PIT_DONE);
+    EXPECT_BYTES(copy, own, sizeof own);
+    passed("a take brings in the later rows of both piles, once");
+}
+
+/* Desk 0 acted twice from one old book on the second pile; the first pile's row alone could be taken. */
+static void split_at_the_second_pile(void)
+{
+    uint8_t own[TWO_PILES_LENGTH], copy[TWO_PILES_LENGTH], before[TWO_PILES_LENGTH];
+    open_two_piles(own);
+    open_two_piles(copy);
+    EXPECT(pit_draw(own, sizeof own, 0, 500, 1), PIT_DONE);
+    EXPECT(pit_tip(copy, sizeof copy, 0, 3, 30), PIT_DONE);
+    EXPECT(pit_give_draw(copy, sizeof copy, 0, 500, 1, 1), PIT_DONE);
+    memcpy(before, own, sizeof own);
+    EXPECT(pit_take(own, sizeof own, copy, sizeof copy, 1), PIT_ROWS_SPLIT);
+    /* By pile, and then by desk: for desk 0 its own row of the first pile comes before the split. */
+    EXPECT(pit_take(own, sizeof own, copy, sizeof copy, 0), PIT_OWN_ROW_BEHIND);
+    EXPECT_BYTES(own, before, sizeof own);
+    passed("a take that is refused at the second pile leaves the first");
+}
+
+static void takes_refused(void)
+{
+    uint8_t g[WORKED_LENGTH], book[WORKED_LENGTH], other[WORKED_LENGTH] = {0}, two[TWO_PILES_LENGTH];
+    static const uint32_t list[] = {WORKED_PILE, 11, 111, 0, 0, 0, 40, 30, 30};
+    make_g(g);
+    memcpy(book, g, sizeof g);
+    open_two_piles(two);
+    EXPECT(pit_open(3, 1, list, 9, other, sizeof other), PIT_DONE);
+    EXPECT(pit_take(book, sizeof book, other, sizeof other, 3), PIT_DESK_ABSENT);
+    EXPECT(pit_take(book, sizeof book, other, sizeof other, 2), PIT_OPENING_DIFFERS);
+    EXPECT(pit_take(book, sizeof book, two, sizeof two, 2), PIT_OPENING_DIFFERS);
+    EXPECT_BYTES(book, g, sizeof g);
+    passed("takes: 11, then 30, and the own book stays");
+}
+
+void takes(void)
+{
+    takes_done();
+    split_at_the_second_pile();
+    takes_refused();
+}
