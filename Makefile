@@ -9,7 +9,7 @@ CFLAGS ?= -O2 -g
 # Where the library is installed, where its archive is, and how long `make fuzz` runs.
 PREFIX ?= /usr/local
 LIB_DIR ?= target/staticlib
-SECONDS ?= 60
+FUZZ_SECONDS ?= 60
 
 ARCHIVE = $(LIB_DIR)/libpitbook.a
 VERSION = $(shell sed -n 's/^version = "\(.*\)"/\1/p' bindings/rust/Cargo.toml)
@@ -66,7 +66,7 @@ install: $(ARCHIVE)
 bench: $(ARCHIVE)
 	$(RUST) bench $(RUST_FLAGS) --bench bench
 
-# The comparison with the model and the histories again and again, each round from a new seed, for SECONDS.
+# The comparison with the model and the histories again and again, each round from a new seed, for FUZZ_SECONDS.
 fuzz: $(ARCHIVE)
 	$(RUST) test --release $(RUST_FLAGS) --no-run
-	SECONDS=$(SECONDS) sh tests/fuzz $(RUST) test --release $(RUST_FLAGS) --test against_model --test histories
+	FUZZ_SECONDS=$(FUZZ_SECONDS) sh tests/fuzz $(RUST) test --release $(RUST_FLAGS) --test against_model --test histories

@@ -14,7 +14,7 @@ mod support;
 use std::collections::BTreeMap;
 use support::places::{Case, Place};
 use support::places::{LIBRARY, MODEL, PLACES};
-use support::{case, from_environment, judge, seed};
+use support::{case, from_environment, judge, say, seed};
 
 /// Calls compared in all, if PITBOOK_CASES is not set.
 const CASES: u64 = 450_000;
@@ -130,7 +130,7 @@ fn report(place: Place, seed: u64, count: u64, reached: &Reached) {
         summary.pop();
         summary += "\n";
     }
-    print!("{summary}");
+    say(summary.trim_end());
     for (name, expected) in EXPECTED {
         if name.split(',').next() != Some(place.name()) {
             continue;

@@ -12,7 +12,7 @@ mod versions;
 
 use random_books::{Case, Random};
 use std::collections::BTreeMap;
-use versions::{Version, VERSIONS};
+use versions::{VERSIONS, Version};
 
 const SEED: u64 = 0x7017_b00c;
 const CASES: usize = 30_000;

@@ -13,7 +13,7 @@ use std::ffi::c_void;
 use std::io::Write;
 use support::places::{Case, Lent, Slices};
 use support::places::{LIBRARY, MODEL, PLACES};
-use support::{case, from_environment, judge, seed};
+use support::{case, from_environment, judge, say, seed};
 
 /// Cases of each place, run on either side of the fence, if
 /// PITBOOK_GUARDED_CASES is not set.
@@ -178,7 +178,9 @@ fn run(side: Side) {
     watch_for_faults();
     let seed = seed();
     let count = from_environment("PITBOOK_GUARDED_CASES", CASES);
-    println!("{side:?}: {count} calls of each place, PITBOOK_SEED={seed}");
+    say(&format!(
+        "{side:?}: {count} calls of each place, PITBOOK_SEED={seed}"
+    ));
     let mut rooms = Rooms::new();
     for place in PLACES {
         for number in 0..count {

@@ -4,7 +4,7 @@
 use std::hint::black_box;
 use std::time::{Duration, Instant};
 
-use crate::versions::{Version, VERSIONS};
+use crate::versions::{VERSIONS, Version};
 
 const SAMPLES: usize = 101;
 const SAMPLE: Duration = Duration::from_millis(1);

@@ -15,7 +15,7 @@ mod versions;
 
 use books::{Books, Size};
 use clock::{Clock, Lent, Timing, Timings};
-use versions::{Version, VERSIONS};
+use versions::{VERSIONS, Version};
 
 const SIZES: [Size; 4] = [
     Size { desks: 1, piles: 1 },

@@ -10,7 +10,12 @@ pub fn some(chance: &mut Chance, book: &Book) -> Vec<u8> {
         0 => {
             let mut damaged = book.clone();
             for _ in 0..1 + chance.below(2) {
-                let pile = chance.below(damaged.piles.len());
+                let count = damaged.piles.len();
+                let pile = if chance.one_in(3) {
+                    count - 1
+                } else {
+                    chance.below(count)
+                };
                 against_the_rules(chance, &mut damaged.piles[pile]);
             }
             bytes::print(&damaged)

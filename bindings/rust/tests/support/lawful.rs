@@ -23,9 +23,10 @@ pub fn book(chance: &mut Chance) -> Book {
 
 /// From 1 to 32, more often few.
 pub fn pile_count(chance: &mut Chance) -> usize {
-    match chance.below(6) {
-        0 => 1 + chance.below(32),
-        1 => 1 + chance.below(8),
+    match chance.below(24) {
+        0 => 32,
+        1..=4 => 1 + chance.below(32),
+        5..=8 => 1 + chance.below(8),
         _ => 1 + chance.below(3),
     }
 }
