@@ -1,11 +1,11 @@
 // Two rows compared, and the one that is handed on: its length and its first byte.
-use crate::decimal;
 use crate::end;
-use crate::text;
 use crate::wide;
 use rows::Order;
 use rows::compare;
 use rows::later_row;
+use samples::decimal;
+use samples::text;
 
 fn order(x: Order) {
     match x {

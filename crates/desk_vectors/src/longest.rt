@@ -1,48 +1,19 @@
 // The longest book: 8 desks and 32 piles in 20,932 bytes. Pile k has floor 0, top 16 and all 16 shares 1.
 use crate::alike;
-use crate::decimal;
 use crate::end;
 use crate::outcome;
 use crate::pile_of;
 use crate::rights;
-use crate::text;
 use book::length;
 use book::open;
 use desk::draw;
 use desk::take;
 use desk::tip;
-ghost use Prim.Native.Nat.{_<_};
+use samples::decimal;
+use samples::longest_list;
+use samples::text;
 
 const LENGTH: usize = 20932;
-
-const NUMBERS: usize = 608;
-
-// The number at a place of the list, of which each pile has 19.
-fn given(at: usize) -> u32
-    requires { ⌜ at < 608 ⌝ }
-{
-    let place = at % 19;
-    if place == 0 {
-        return (at / 19) as u32 + 1;
-    }
-    if place == 1 {
-        return 0;
-    }
-    if place == 2 {
-        return 16;
-    }
-    1
-}
-
-fn list() -> [u32; NUMBERS] {
-    let mut numbers = [0u32; NUMBERS];
-    let mut at = 0;
-    while at < NUMBERS {
-        numbers[at] = given(at);
-        at += 1;
-    }
-    numbers
-}
 
 // The tonnage of pile 32, and the rights of desks 0, 1 and 7.
 fn line(label: &[u8], x: u8, before: &[u8], after: &[u8]) {
@@ -53,7 +24,7 @@ fn line(label: &[u8], x: u8, before: &[u8], after: &[u8]) {
 }
 
 fn opened() -> [u8; LENGTH] {
-    let numbers = list();
+    let numbers = longest_list();
     let before = [0u8; LENGTH];
     let mut book = before;
     let x = open(8, 32, &numbers, &mut book);

@@ -10,27 +10,9 @@ mod worked;
 use book::draw_rights;
 use book::tip_rights;
 use book::tonnage;
-use libc::STDOUT_FILENO;
-use pile::Amount;
-
-pub(crate) fn text(s: &[u8]) {
-    io::write_all(STDOUT_FILENO, s);
-}
-
-pub(crate) fn decimal(x: u64) {
-    io::print_decimal(STDOUT_FILENO, x);
-}
-
-fn amount(a: Amount) {
-    text(b" ");
-    match a {
-        Amount::Tonnes(x) => decimal(x as u64),
-        Amount::Refused(k) => {
-            text(b"refused ");
-            decimal(k as u64);
-        }
-    }
-}
+use samples::amount;
+use samples::decimal;
+use samples::text;
 
 pub(crate) fn wide(x: u8) -> u64 {
     x as u64

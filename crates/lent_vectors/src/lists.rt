@@ -1,54 +1,25 @@
-// A book of 2 desks and 32 piles: its contents in 34 lent entries and in 31, and the same of a book that is refused. Each line has the call, its
+// The longest book, of 32 piles: its contents in 34 lent entries and in 31, and the same of a book that is refused. Each line has the call, its
 // answer, and some of the lent entries after it: the first two, the last that is filled, and those past the contents.
 use crate::contents::filled;
 use crate::contents::filled_short;
-use crate::decimal;
-use crate::text;
 use book::open;
 use lent::Entry;
-ghost use Prim.Native.Nat.{_<_};
+use samples::decimal;
+use samples::longest_list;
+use samples::text;
 
-const LENGTH: usize = 2500;
-
-const NUMBERS: usize = 224;
+const LENGTH: usize = 20932;
 
 // What every lent entry is before a call.
 const NUMBER: u16 = 65535;
 
 const POSITION: u32 = 4294967295;
 
-// The number at a place of the list, of which each pile has 7: pile k has number 3k + 3, floor 0, top 4 and all 4 shares 1.
-fn given(at: usize) -> u32
-    requires { ⌜ at < 224 ⌝ }
-{
-    let place = at % 7;
-    if place == 0 {
-        return (at / 7) as u32 * 3 + 3;
-    }
-    if place == 1 {
-        return 0;
-    }
-    if place == 2 {
-        return 4;
-    }
-    1
-}
-
-fn list() -> [u32; NUMBERS] {
-    let mut numbers = [0u32; NUMBERS];
-    let mut at = 0;
-    while at < NUMBERS {
-        numbers[at] = given(at);
-        at += 1;
-    }
-    numbers
-}
-
 fn opened() -> [u8; LENGTH] {
-    let numbers = list();
+    let numbers = longest_list();
     let mut book = [0u8; LENGTH];
-    text(b"open 32 piles of 2 desks: ");
-    decimal(open(2, 32, &numbers, &mut book) as u64);
+    text(b"open the longest book: ");
+    decimal(open(8, 32, &numbers, &mut book) as u64);
     text(b"\n");
     book
 }

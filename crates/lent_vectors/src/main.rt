@@ -5,16 +5,6 @@ mod contents;
 mod lists;
 mod worked;
 
-use libc::STDOUT_FILENO;
-
-pub(crate) fn text(s: &[u8]) {
-    io::write_all(STDOUT_FILENO, s);
-}
-
-pub(crate) fn decimal(x: u64) {
-    io::print_decimal(STDOUT_FILENO, x);
-}
-
 fn main() {
     worked::run();
     lists::run();

@@ -5,42 +5,9 @@ use crate::acts::drawn;
 use crate::acts::tip_given;
 use crate::acts::tipped;
 use crate::acts::worked;
-use crate::decimal;
-use crate::text;
-use pile::Amount;
 use pile::Outcome;
 use pile::Pile;
-
-fn amount(a: Amount) {
-    text(b" ");
-    match a {
-        Amount::Tonnes(x) => decimal(x as u64),
-        Amount::Refused(k) => {
-            text(b"refused ");
-            decimal(k as u64);
-        }
-    }
-}
-
-// A line for an answer; its record is what the next act is entered in.
-fn line(label: &[u8], e: Outcome) -> Pile {
-    text(label);
-    text(b": ");
-    decimal(e.answer as u64);
-    let p = e.pile;
-    text(b" now");
-    amount(p.tonnage());
-    text(b" draw");
-    amount(p.draw_rights(0));
-    amount(p.draw_rights(1));
-    amount(p.draw_rights(2));
-    text(b" tip");
-    amount(p.tip_rights(0));
-    amount(p.tip_rights(1));
-    amount(p.tip_rights(2));
-    text(b"\n");
-    p
-}
+use samples::line;
 
 fn opened() -> Pile {
     let shares = [0, 0, 0, 0, 0, 0, 0, 0, 40, 30, 30, 0, 0, 0, 0, 0];

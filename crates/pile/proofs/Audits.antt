@@ -1,10 +1,9 @@
 -- What an audit that found nothing tells: its rights and its tonnage are the record's, and at most the top.
 -- Assumes nothing.
 use Prim.Native.Nat.{ℕ, _≤_, _<_}
-use native.Mathlib.Decide.{decLt}
 use native.Mathlib.Omega.{arith}
 use mathlib.Core.Path.{_≡_, sym, _∙_}
-use mathlib.Core.Logic.{_≢_, by-cases}
+use mathlib.Core.Logic.{_≢_}
 use mathlib.Core.List.{List}
 use lib.ListN.{getD, replicate}
 use Rattle.rules.specs.Loops.{list}
@@ -16,12 +15,11 @@ use Rattle.rules.proofs.Loops.Pieces.{list-cong}
 use Rattle.rules.proofs.Pile.Tonnage.{tonnage-within, rights-most}
 use Rattle.rules.proofs.Record.Facts.{record-facts}
 use Rattle.rules.proofs.Record.RecordOf.{padded-used, padded-unused}
+use Rattle.rules.proofs.Record.Agreeing.{padded-is}
 use Rattle.pile.specs.View.{Audited}
 
 padded-cong : (n j : ℕ) (f g : ℕ → ℕ) → (j < n → f j ≡ g j) → padded n f j ≡ padded n g j
-padded-cong n j f g e =
-    by-cases (decLt j n) (λ l. padded-used n f j l ∙ e l ∙ sym (padded-used n g j l))
-    (λ l. padded-unused n f j (omega arith) ∙ sym (padded-unused n g j (omega arith)))
+padded-cong n j f g e = padded-is n g j (padded n f j) (λ l. sym (padded-used n f j l ∙ e l)) (padded-unused n f j)
 
 module _ {r : Record} {answer weight : ℕ} {left : Side → List ℕ} (a : Audited r answer weight left) (z : answer ≡ 0) where
   pub passed : recordAnswer r ≡ 0

@@ -71,6 +71,7 @@ pub(crate) fn tonnes(found: [u64; PLACES], n: usize) -> [u32; PLACES]
     rights
 }
 
+// The tonnage and all desks' rights, as the audit has them.
 pub(crate) fn holdings_of(p: Pile) -> Holdings
     ensures answer { λ r. ⌜ r .answer ≡ recordAnswer (asRecord p) ⌝ }
     ensures tonnage { λ r. ⌜ r .tonnage ≡ recordTonnage (asRecord p) ⌝ }

@@ -114,7 +114,7 @@ recordAfterAct i kind t r =
     })
     r
 
--- a pile of n desks as a record
+-- row i of a pile of n desks, as a record has it; then the whole record
 unfoldable pub paddedRow : ℕ → Pile → ℕ → List ℕ
 paddedRow n p i =
     padded n (p .earned draw) i ∷ padded n (p .earned tip) i

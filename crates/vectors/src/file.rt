@@ -1,7 +1,4 @@
 // The worked book's file F: opened, read, and with an act on its pile stored. Each line has the call and its answer.
-use crate::amount;
-use crate::decimal;
-use crate::text;
 use book::body;
 use book::check;
 use book::draw_rights;
@@ -12,6 +9,9 @@ use book::tip_rights;
 use book::tonnage;
 use pile::Amount;
 use pile::Pile;
+use samples::amount;
+use samples::decimal;
+use samples::text;
 
 fn answer(label: &[u8], x: u64) {
     text(label);

@@ -2,51 +2,10 @@
 // and from G. Each line has the act, its answer, and then the tonnage and the draw and tip rights of desks 0, 1 and 2 of the record that came back.
 mod file;
 
-use libc::STDOUT_FILENO;
-use pile::Amount;
-use pile::Outcome;
 use pile::Pile;
 use pile::TALLIES;
+use samples::line;
 ghost use Prim.Native.Nat.{_<_};
-
-pub(crate) fn text(s: &[u8]) {
-    io::write_all(STDOUT_FILENO, s);
-}
-
-pub(crate) fn decimal(x: u64) {
-    io::print_decimal(STDOUT_FILENO, x);
-}
-
-pub(crate) fn amount(a: Amount) {
-    text(b" ");
-    match a {
-        Amount::Tonnes(x) => decimal(x as u64),
-        Amount::Refused(k) => {
-            text(b"refused ");
-            decimal(k as u64);
-        }
-    }
-}
-
-// A line for an answer; its record is what the next act is entered in.
-fn line(label: &[u8], e: Outcome) -> Pile {
-    text(label);
-    text(b": ");
-    decimal(e.answer as u64);
-    let p = e.pile;
-    text(b" now");
-    amount(p.tonnage());
-    text(b" draw");
-    amount(p.draw_rights(0));
-    amount(p.draw_rights(1));
-    amount(p.draw_rights(2));
-    text(b" tip");
-    amount(p.tip_rights(0));
-    amount(p.tip_rights(1));
-    amount(p.tip_rights(2));
-    text(b"\n");
-    p
-}
 
 // G: F after its seven acts, with cases b and d refused first.
 fn worked() -> Pile {

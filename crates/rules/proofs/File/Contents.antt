@@ -34,17 +34,17 @@ module _ (b : List ℕ) (room : ℕ) where
   room-enough e = (ltb-false _ _ (when-done _ _ (orElse-rest _ _ e)), book-facts b (orElse-first _ _ e) .sizes .piles-most)
 
   -- how many entries are filled: none where the call is refused
-  abbrev pub filled : ℕ
-  filled = done (contentsAnswer b room) (piles b) 0
+  abbrev pub entriesFilled : ℕ
+  entriesFilled = done (contentsAnswer b room) (piles b) 0
 
-  pub filled-within : (filled ≤ room) × (filled ≤ pileLimit)
+  pub filled-within : (entriesFilled ≤ room) × (entriesFilled ≤ pileLimit)
   filled-within =
       ⊎-elim (λ e. rw (when-accepted (contentsAnswer b room) (piles b) 0 e) (room-enough e))
       (λ p. rw (when-refused (contentsAnswer b room) (piles b) 0 (λ z. omega arith)) (omega arith, omega arith)) (eq-zero-or-pos (contentsAnswer b room))
 
 -- the filled entries, and the rest as it was, are what the call leaves
 pub contents-filled : {Entry : Type 0} (entry : ℕ → ℕ → Entry) (b : List ℕ) (out : List Entry) →
-    list (filled b (length out)) (λ k. entry (pileNumber b k) (position b k)) ++ drop (filled b (length out)) out ≡ afterContents entry b out
+    list (entriesFilled b (length out)) (λ k. entry (pileNumber b k) (position b k)) ++ drop (entriesFilled b (length out)) out ≡ afterContents entry b out
 unfolding afterContents list flat
 contents-filled entry b out =
     ⊎-elim (λ e. rw (when-accepted (contentsAnswer b (length out)) (piles b) 0 e) (sym (when-accepted _ _ _ e)))

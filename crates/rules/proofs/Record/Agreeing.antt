@@ -16,7 +16,7 @@ use Rattle.rules.proofs.Record.Unused.{unused-share, unused-earned, unu
 use Rattle.rules.proofs.Record.RecordOf.{padded-used, padded-unused, shares-are, tallies-are}
 
 -- the number at a place, used or not
-padded-is : (n : ℕ) (f : ℕ → ℕ) (j x : ℕ) → (j < n → f j ≡ x) → (n ≤ j → x ≡ 0) → x ≡ padded n f j
+pub padded-is : (n : ℕ) (f : ℕ → ℕ) (j x : ℕ) → (j < n → f j ≡ x) → (n ≤ j → x ≡ 0) → x ≡ padded n f j
 padded-is n f j x used unused =
     by-cases (decLt j n) (λ l. sym (used l) ∙ sym (padded-used n f j l))
     (λ l. unused (omega arith) ∙ sym (padded-unused n f j (omega arith)))

@@ -53,7 +53,7 @@ use Rattle.rules.specs.Layout.{pileNumber, position}
 use Rattle.rules.specs.Book.{contentsAnswer, afterContents}
 use Rattle.lent.specs.Entries.{entryOf}
 use Rattle.lent.specs.declared.entries.Entry.{Entry}
-use Rattle.rules.proofs.File.Contents.{filled, filled-within, contents-filled}
+use Rattle.rules.proofs.File.Contents.{entriesFilled, filled-within, contents-filled}
 use Rattle.rules.proofs.Loops.Partly.{partly, partly-none, length-partly, partly-next}
 use Rattle.lent.proofs.Passed.{Shared, token, passes, returned}
 use Rattle.lent.proofs.entries.Entry as T
@@ -114,7 +114,7 @@ module _ {M : Type 1} (𝓤 : URA M) (H : Heap 𝓤) (A : Atoms 𝓤) (W : Given
   answer = contentsAnswer book n
 
   abbrev count : ℕ
-  count = filled book n
+  count = entriesFilled book n
 
   -- line k of the contents, and the list with k lines filled in
   abbrev line : ℕ → Entry

@@ -1,9 +1,9 @@
--- `desk_vectors::longest::list` is safe and ends. The loop's invariant: at is at most the list's length. The measure is what is left of it.
+-- `samples::longest::longest_list` is safe and ends. The loop's invariant: at is at most the list's length. The measure is what is left of it.
 -- Assumes nothing.
 use Prim.Native.Nat.{_≤_, _-_}
 use borrow.Author.Needs.{needs}
-use Rattle.desk_vectors.proofs.longest.list.Statement.{statement}
-use Rattle.desk_vectors.proofs.longest.list.Tie as tie
+use Rattle.samples.proofs.longest.longest_list.Statement.{statement}
+use Rattle.samples.proofs.longest.longest_list.Tie as tie
 
 abbrev Inv-loop : tie.InvT-loop
 Inv-loop numbers₀ at₀ numbers at = at ≤ 608
@@ -35,8 +35,8 @@ loop-again c = search needs
 returns : tie.Need-returns Inv-loop μ-loop
 returns c = search needs
 
-pub list-spec : {M : Type 1} → statement M
-list-spec =
+pub longest-list-spec : {M : Type 1} → statement M
+longest-list-spec =
     tie.close
     (tie.spec
     Inv-loop
