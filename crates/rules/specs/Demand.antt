@@ -1,16 +1,21 @@
--- The book as a replica, and so demand 3's claim for the book. The answers and books are those that code on books is to be held to.
+-- The book as a replica, and so demand 3's claim for the book; then what a desk's own book tells of all acts made (1/12).
+-- The answers and books are those that code on books is held to.
 -- Assumes nothing.
 use Prim.Native.Nat.{ℕ, _≤_, _<_}
 use mathlib.Core.Path.{_≡_}
 use mathlib.Core.List.{List}
-use Rattle.history.specs.Replica.{Replica}
+use lib.ListN.{length}
+use Rattle.history.specs.Replica.{Replica, Call, Valid}
+use Rattle.history.specs.Books.{books}
+use Rattle.history.specs.Made.{global}
 use Rattle.history.specs.Claim.{Demand3}
-use Rattle.rules.specs.Pile.{tonnage}
+use Rattle.rules.specs.Pile.{Side, tonnage}
 use Rattle.rules.specs.Acts.{Act}
-use Rattle.rules.specs.Layout.{bookLength, desks, piles, pileOf}
+use Rattle.rules.specs.Layout.{bookLength, desks, piles, pileNumber, pileOf}
 use Rattle.rules.specs.Opening.{openingAnswer, opened}
 use Rattle.rules.specs.Book.{actAnswer, afterAct}
 use Rattle.rules.specs.Take.{takeAnswer, afterTake}
+use Rattle.rules.specs.Bounds.{least, most}
 
 abbrev pub book : Replica
 book =
@@ -33,3 +38,41 @@ Within b =
 abbrev pub BookDemand3 : Type 0
 BookDemand3 =
     (n p : ℕ) (l : List ℕ) → openingAnswer n p l (bookLength n p) ≡ 0 → Demand3 book n Within (opened n p l)
+
+-- Between: at every moment of every history, on each pile, the tonnage by all acts made lies between the least and the most on desk d's line of its
+-- own book of that moment.
+abbrev pub Between : ℕ → List ℕ → List ℕ → Type 0
+Between d own all =
+    (k : ℕ) → k < piles own
+    → (pileNumber all k ≡ pileNumber own k)
+    × (least (desks own) (pileOf own k) d ≤ tonnage (desks all) (pileOf all k))
+    × (tonnage (desks all) (pileOf all k) ≤ most (desks own) (pileOf own k) d)
+
+abbrev pub BookBetween : Type 0
+BookBetween =
+    (n p : ℕ) (l : List ℕ) → openingAnswer n p l (bookLength n p) ≡ 0 → (h : List (Call Act)) → Valid n h
+    → (m d : ℕ) → m ≤ length h → d < n → Between d (books book (opened n p l) h m d) (global book n (opened n p l) h m)
+
+-- no tally of a book is over a limit
+abbrev pub TalliesUpTo : ℕ → List ℕ → Type 0
+TalliesUpTo limit b =
+    (k i : ℕ) → k < piles b → i < desks b → (s : Side)
+    → (pileOf b k .earned s i ≤ limit) × ((j : ℕ) → j < desks b → pileOf b k .give s i j ≤ limit)
+
+-- a list of calls that leaves desk d with the book `own`, and pile k with the tonnage x by all acts made
+pub record Reached (n : ℕ) (start : List ℕ) (d : ℕ) (own : List ℕ) (k x : ℕ) : Type 0 where
+  pub calls : List (Call Act)
+  pub valid : Valid n calls
+  pub own-book : books book start calls (length calls) d ≡ own
+  pub same-pile : pileNumber (global book n start calls (length calls)) k ≡ pileNumber own k
+  pub tonnage-is :
+      tonnage (desks (global book n start calls (length calls))) (pileOf (global book n start calls (length calls)) k) ≡ x
+
+-- Reached: after every history, where no tally of desk d's newest book is over 990,000,000, each pile of it can have every whole number of tonnes
+-- from least to most: some list of calls from the same opening ends with that same book and those tonnes.
+abbrev pub BookReached : Type 0
+BookReached =
+    (n p : ℕ) (l : List ℕ) → openingAnswer n p l (bookLength n p) ≡ 0 → (h : List (Call Act)) → Valid n h → (d : ℕ) → d < n
+    → let own = books book (opened n p l) h (length h) d in
+    TalliesUpTo 990000000 own → (k x : ℕ) → k < piles own → least (desks own) (pileOf own k) d ≤ x → x ≤ most (desks own) (pileOf own k) d
+    → Reached n (opened n p l) d own k x

@@ -8,5 +8,6 @@ pub mod Rows
 pub mod Opening
 pub mod Book
 pub mod Record
+pub mod Bounds
 pub mod Take
 pub mod Demand
