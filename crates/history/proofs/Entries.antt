@@ -41,6 +41,27 @@ module _ {A : Type 0} where
           subst⁻¹ P (fun-ext (λ S. cases (λ (es : List (ℕ × A)). own e es ≡ kept e h S) (S (length h)) (λ _. old S) (λ _. refl)))
           (other x)
 
+  -- a set without the newest call
+  pub entries-skip : (c : Call A) (h : List (Call A)) (S : Acts) → S (length h) ≡ false → entries (c ∷ h) S ≡ entries h S
+  unfolding entries
+  entries-skip (act d a) h S p = rw p
+  entries-skip (take d e m) h S p = refl
+
+  entries-below : (h : List (Call A)) {S T : Acts} → ((q : ℕ) → q < length h → S q ≡ T q) → entries h S ≡ entries h T
+  unfolding entries
+  entries-below [] f = refl
+  entries-below (act d a ∷ h) f =
+      ap₂ (λ b es. cond b ((d, a) ∷ es) es) (f (length h) (omega arith)) (entries-below h (λ q l. f q (omega arith)))
+  entries-below (take d e m ∷ h) f = entries-below h (λ q l. f q (omega arith))
+
+  -- a set with it
+  pub entries-joined : (d : ℕ) (a : A) (h : List (Call A)) (S : Acts)
+      → entries (act d a ∷ h) (joined (length h) S) ≡ (d, a) ∷ entries h S
+  unfolding entries
+  entries-joined d a h S =
+      rw (eq-eqb (length h) (length h) refl)
+      (ap (λ es. (d, a) ∷ es) (entries-below h (λ q l. rw (ne-eqb q (length h) (omega arith)))))
+
 module _ (R : Replica) (start : R .State) where
   pub lone-run : (h : History R) (S : Acts) → lone R start h S ≡ run R start (entries h S)
   unfolding lone entries
@@ -50,21 +71,11 @@ module _ (R : Replica) (start : R .State) where
   lone-run (take d e m ∷ h) S =
       cases (λ s. s ≡ run R start (entries h S)) (S (length h)) (λ _. lone-run h S) (λ _. lone-run h S)
 
-  -- a set without the newest call
   pub lone-skip : (c : Call (R .Act)) (h : History R) (S : Acts) → S (length h) ≡ false → lone R start (c ∷ h) S ≡ lone R start h S
   unfolding lone
   lone-skip c h S p = rw p
 
-  lone-below : (h : History R) {S T : Acts} → ((q : ℕ) → q < length h → S q ≡ T q) → lone R start h S ≡ lone R start h T
-  unfolding lone
-  lone-below [] f = refl
-  lone-below (c ∷ h) f =
-      ap₂ (λ b s. cond b (enter R start c s) s) (f (length h) (omega arith)) (lone-below h (λ q l. f q (omega arith)))
-
   -- a set with it
   pub lone-joined : (d : ℕ) (a : R .Act) (h : History R) (S : Acts)
       → lone R start (act d a ∷ h) (joined (length h) S) ≡ R .afterAct d a (lone R start h S)
-  unfolding lone
-  lone-joined d a h S =
-      rw (eq-eqb (length h) (length h) refl)
-      (ap (R .afterAct d a) (lone-below h (λ q l. rw (ne-eqb q (length h) (omega arith)))))
+  lone-joined d a h S = simp (lone-run, entries-joined)

@@ -17,7 +17,7 @@ use Rattle.history.specs.Ledger.{Acts, lone, ledger}
 use Rattle.history.specs.Guarantees.{_⊆_, OnlyTakes, MonotonicReads, ReadYourWrites, WritesFollowReads, MonotonicWrites, Convergence, Guarantees}
 use Rattle.history.proofs.Laws.{Laws}
 use Rattle.history.proofs.Sets.{right, or-split, same, cases}
-use Rattle.history.proofs.Moments.{History, latest, past, late, next, grows, newest}
+use Rattle.history.proofs.Moments.{History, latest, past, late, before, next, grows, newest}
 use Rattle.history.proofs.Good.{MayHave, Good, more, valid-before, ledger-sound}
 use Rattle.history.proofs.Sequential.{sequential}
 
@@ -32,13 +32,9 @@ module _ (R : Replica) (start : R .State) where
       (λ k. grows R start c h i q (reads h m (length h) i k q (rw (past R start c h m i k) at p)))
       (λ k. rw (late R start c h m i (omega arith)) at p)))
 
-  before : (f h : History R) (m i : ℕ) → m ≤ length h → ledger R start (f ++ h) m i ≡ ledger R start h m i
-  before [] h m i l = refl
-  before (c ∷ f) h m i l = past R start c (f ++ h) m i (simp length-append (omega arith)) ∙ before f h m i l
-
   -- what a desk had after h, it has at each later moment
   stays : (f h : History R) {m : ℕ} (i : ℕ) → length h ≤ m → latest R start h i ⊆ ledger R start (f ++ h) m i
-  stays f h {m} i l q p = reads (f ++ h) (length h) m i l q (rw (before f h (length h) i (le-refl _)) p)
+  stays f h {m} i l q p = reads (f ++ h) (length h) m i l q (rw (before R start f h (length h) i (le-refl _)) p)
 
   -- what desk j had after h, desk i has when it has taken a later copy of j's
   heard : {f : History R} (h : History R) (i j m : ℕ) → length h ≤ m → List·Memᴰ (take i j m) f

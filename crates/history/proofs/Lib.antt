@@ -7,6 +7,8 @@ pub mod Good
 pub mod Stages
 pub mod Accepted
 pub mod Sequential
+pub mod Made
 pub mod Demand
+pub mod Relayed
 pub mod Guarantees
 pub mod Refuted

@@ -2,10 +2,11 @@
 -- Assumes nothing.
 use Prim.Native.Nat.{ℕ, suc, _≤_, _<_}
 use native.Mathlib.Nat.{le-refl}
-use mathlib.Core.Path.{_≡_, refl}
+use native.Mathlib.Omega.{arith}
+use mathlib.Core.Path.{_≡_, refl, _∙_}
 use mathlib.Core.Bool.{true, cond}
-use mathlib.Core.List.{List, _∷_}
-use lib.ListN.{length}
+use mathlib.Core.List.{List, [], _∷_, _++_}
+use lib.ListN.{length, length-append}
 use lib.Dec.{leb, eqb}
 use borrow.Author.Tests.{le-leb, lt-leb, eq-eqb, eqb-true, eqb-false}
 use Rattle.history.specs.Replica.{Replica, Call, act, take, caller}
@@ -34,8 +35,12 @@ module _ (R : Replica) (start : R .State) where
   unfolding books ledger at
   after P c h m i old kept new = arms P (leb m (length h)) old (arms P (eqb i (caller c)) new kept)
 
-  -- the sets of earlier moments, of later ones, and of this one
+  -- the states and the sets of earlier moments; the sets of later ones, and of this one
   module _ (c : Call (R .Act)) (h : History R) where
+    pub past-state : (m i : ℕ) → m ≤ length h → books R start (c ∷ h) m i ≡ books R start h m i
+    unfolding books at
+    past-state m i l = rw (le-leb m (length h) l)
+
     pub past : (m i : ℕ) → m ≤ length h → ledger R start (c ∷ h) m i ≡ ledger R start h m i
     unfolding ledger at
     past m i l = rw (le-leb m (length h) l)
@@ -47,6 +52,10 @@ module _ (R : Replica) (start : R .State) where
     pub next : (i : ℕ) → latest (c ∷ h) i ≡ cond (eqb i (caller c)) (heldAfter R start h c (ledger R start h)) (latest h i)
     unfolding ledger at
     next i = rw (lt-leb (suc (length h)) (length h) (le-refl _))
+
+  pub before : (f h : History R) (m i : ℕ) → m ≤ length h → ledger R start (f ++ h) m i ≡ ledger R start h m i
+  before [] h m i l = refl
+  before (c ∷ f) h m i l = past c (f ++ h) m i (simp length-append (omega arith)) ∙ before f h m i l
 
   pub by-answer : (P : Acts → Type 0) (h : History R) (d : ℕ) (a : R .Act) → (Fits h d a → P (joined (length h) (latest h d)))
       → ((Fits h d a → ⊥) → P (latest h d)) → P (heldAfter R start h (act d a) (ledger R start h))

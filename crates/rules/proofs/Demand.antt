@@ -5,4 +5,5 @@ pub mod Runs
 pub mod Monotone
 pub mod EqualBooks
 pub mod BookLaws
+pub mod Between
 pub mod Consequences

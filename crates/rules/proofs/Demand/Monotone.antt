@@ -46,7 +46,7 @@ module _ (n p : ℕ) (numbers : ℕ → ℕ) (start : ℕ → Pile) (es fs : Lis
   unfolding debit
   debit-same s = ap₂ _+_ (sum-cong n (λ j l. own-give s j)) (own-earned (other s))
 
-  rights-grow : (s : Side) → rights n before s d ≤ rights n after s d
+  pub rights-grow : (s : Side) → rights n before s d ≤ rights n after s d
   unfolding rights
   rights-grow s = omega (arith, credit-grows s, debit-same s)
 

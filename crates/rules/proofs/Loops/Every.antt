@@ -77,6 +77,15 @@ index-stops zero t k l e d = absurd (not-suc-le-zero l)
 index-stops (suc n) t zero l e d = ap (λ (b : Bool). cond b 0 (suc (index n (λ j. t (suc j))))) d
 index-stops (suc n) t (suc k) l e d = index-past n k k t e (λ f. index-stops n (λ j. t (suc j)) k (le-of-suc-le-suc l) f d)
 
+index-none : (k : ℕ) (t : ℕ → Bool) → ((j : ℕ) → j < k → t j ≡ false) → index k t ≡ k
+unfolding index
+index-none zero t h = refl
+index-none (suc k) t h = index-suc k t (index-none k t (λ j l. h j (le-step l))) (h k (le-refl (suc k)))
+
+-- the first number at which the test holds
+pub index-first : (n : ℕ) (t : ℕ → Bool) (k : ℕ) → k < n → t k ≡ true → ((j : ℕ) → j < k → t j ≡ false) → index n t ≡ k
+index-first n t k l e h = index-stops n t k l (index-none k t h) e
+
 pub index-most : (n : ℕ) (t : ℕ → Bool) → index n t ≤ n
 unfolding index
 index-most zero t = le-refl 0

@@ -2,9 +2,10 @@
 -- Assumes nothing.
 use Prim.Native.Nat.{ℕ, zero, suc, _+_, _≤_, _<_}
 use native.Mathlib.Nat.{le-refl, le-step, add-le-add, not-suc-le-zero, le-of-suc-le-suc, eq-or-lt-of-le, zero-add, add-zero}
+use native.Mathlib.Decide.{decLe, ℕ-discrete}
 use native.Mathlib.Omega.{arith}
 use mathlib.Core.Path.{_≡_, refl, ap, ap₂, sym, _∙_}
-use mathlib.Core.Logic.{⊎-elim}
+use mathlib.Core.Logic.{_≢_, ⊎-elim, by-cases}
 use mathlib.Core.Bool.{Bool, cond}
 use lib.Dec.{eqb}
 use borrow.Author.Tests.{eq-eqb, ne-eqb}
@@ -40,6 +41,23 @@ unfolding sum
 term-le zero k f l = absurd (not-suc-le-zero l)
 term-le (suc n) k f l =
     ⊎-elim (λ e. omega (arith, ap f e)) (λ k<n. omega (arith, term-le n k f k<n)) (eq-or-lt-of-le (le-of-suc-le-suc l))
+
+-- a place at which a sum has something; and one other than d, where the sum has more than its number at d
+pub positive-term : (n : ℕ) (f : ℕ → ℕ) → 0 < sum n f → (e : ℕ) × (e < n) × (0 < f e)
+unfolding sum
+positive-term zero f h = absurd (not-suc-le-zero h)
+positive-term (suc n) f h =
+    by-cases (decLe 1 (f n)) (λ l. (n, le-refl (suc n), l))
+    (λ l. let (e, b, x) = positive-term n f (omega arith) in (e, le-step b, x))
+
+pub another-term : (n d : ℕ) (f : ℕ → ℕ) → f d < sum n f → (e : ℕ) × (e < n) × (e ≢ d) × (0 < f e)
+unfolding sum
+another-term zero d f h = absurd (not-suc-le-zero h)
+another-term (suc n) d f h =
+    by-cases (ℕ-discrete n d)
+    (λ same. let (e, b, x) = positive-term n f (omega (arith, ap f same)) in (e, le-step b, λ q. omega arith, x))
+    (λ other. by-cases (decLe 1 (f n)) (λ l. (n, le-refl (suc n), other, l))
+    (λ l. let (e, b, d, x) = another-term n d f (omega arith) in (e, le-step b, d, x)))
 
 -- t at one place below n, and nothing elsewhere
 pub sum-at : (n i t : ℕ) → i < n → sum n (λ k. cond (eqb k i) t 0) ≡ t
