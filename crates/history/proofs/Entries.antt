@@ -9,7 +9,7 @@ use lib.ListN.{length}
 use lib.Dec.{eqb}
 use borrow.Author.Tests.{eq-eqb, ne-eqb}
 use Rattle.history.specs.Replica.{Replica, Call, act, take}
-use Rattle.history.specs.Ledger.{Acts, joined, enter, lone}
+use Rattle.history.specs.Ledger.{Acts, joined, lone}
 use Rattle.history.proofs.Laws.{own, run}
 use Rattle.history.proofs.Sets.{cases, arms}
 use Rattle.history.proofs.Moments.{History}

@@ -10,5 +10,6 @@ pub mod Sequential
 pub mod Made
 pub mod Demand
 pub mod Relayed
+pub mod Unheard
 pub mod Guarantees
 pub mod Refuted

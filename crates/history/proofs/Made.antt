@@ -5,14 +5,14 @@ use Prim.Native.Nat.{ℕ, zero, suc, _≤_, _<_}
 use native.Mathlib.Nat.{le-of-suc-le-suc, eq-or-lt-of-le, lt-irrefl, not-suc-le-zero}
 use native.Mathlib.Decide.{decLe}
 use native.Mathlib.Omega.{arith}
-use mathlib.Core.Path.{_≡_, refl, ap, sym, _∙_}
+use mathlib.Core.Path.{_≡_, refl}
 use mathlib.Core.Logic.{⊎-elim, by-cases}
-use mathlib.Core.Bool.{true, false≢true}
+use mathlib.Core.Bool.{false≢true}
 use mathlib.Core.List.{List, [], _∷_}
 use lib.ListN.{length}
 use Rattle.history.specs.Replica.{Replica, Valid}
 use Rattle.history.specs.Books.{books}
-use Rattle.history.specs.Ledger.{Acts, none, gained, lone, ledger}
+use Rattle.history.specs.Ledger.{Acts, none}
 use Rattle.history.specs.Guarantees.{_⊆_}
 use Rattle.history.specs.Made.{unions, made, global}
 use Rattle.history.proofs.Laws.{own, Ends, run, Entered, Laws}

@@ -1,41 +1,27 @@
 -- Every list of entered acts has a history. Before each act its desk takes the newest copy of the desk that has all acts so far, so it finds them all;
--- in the end every desk takes that copy. If one desk is left out of what follows, it keeps its state while the others go on.
+-- in the end every desk takes that copy.
 -- Assumes nothing.
 use Prim.Native.Nat.{ℕ, zero, suc, _≤_, _<_}
 use native.Mathlib.Nat.{le-refl}
 use native.Mathlib.Decide.{ℕ-discrete}
 use native.Mathlib.Omega.{arith}
-use mathlib.Core.Path.{_≡_, refl, ap, sym, _∙_, fun-ext}
-use mathlib.Core.Logic.{_≢_, ⊎-elim, by-cases}
-use mathlib.Core.Bool.{true, false, cond}
+use mathlib.Core.Path.{_≡_, refl, ap, _∙_}
+use mathlib.Core.Logic.{_≢_, by-cases}
+use mathlib.Core.Bool.{cond}
 use mathlib.Core.List.{List, [], _∷_, _++_}
 use lib.ListN.{length, length-append}
 use lib.Dec.{eqb}
 use borrow.Author.Tests.{eq-eqb, ne-eqb}
 use Rattle.history.specs.Replica.{Replica, act, take, Valid}
-use Rattle.history.specs.Books.{at, books}
-use Rattle.history.specs.Ledger.{Acts, gained, joined, lone, ledger}
+use Rattle.history.specs.Books.{at}
+use Rattle.history.specs.Ledger.{Acts, joined, ledger}
 use Rattle.history.specs.Guarantees.{_⊆_}
-use Rattle.history.specs.Made.{made, global}
 use Rattle.history.proofs.Laws.{run, Entered, Laws}
-use Rattle.history.proofs.Sets.{right, or-split, same, fails}
+use Rattle.history.proofs.Sets.{right, gained-wider}
 use Rattle.history.proofs.Moments.{History, latest, Fits, before, next}
-use Rattle.history.proofs.Entries.{entries, lone-run, entries-skip, entries-joined}
+use Rattle.history.proofs.Entries.{entries, lone-run, entries-joined}
 use Rattle.history.proofs.Good.{ledger-sound}
 use Rattle.history.proofs.Accepted.{ran}
-use Rattle.history.proofs.Made.{unions-have, unions-within}
-use Rattle.history.proofs.Sequential.{sequential}
-
-equal-sets : {S T : Acts} → S ⊆ T → T ⊆ S → S ≡ T
-equal-sets st ts = fun-ext (λ q. same _ _ (st q) (ts q))
-
-gained-wider : {S T : Acts} → S ⊆ T → gained S T ≡ T
-gained-wider {S} {T} st = equal-sets (λ q p. ⊎-elim (st q) (λ t. t) (or-split (S q) p)) (right S T)
-
--- fs is es with acts of desks other than d on top
-pub data Beyond {A : Type 0} (d : ℕ) (es : List (ℕ × A)) : List (ℕ × A) → Type 0 where
-  none : Beyond d es es
-  more : {x : ℕ × A} {fs : List (ℕ × A)} → x .0 ≢ d → Beyond d es fs → Beyond d es (x ∷ fs)
 
 module _ (R : Replica) (n : ℕ) (start : R .State) where
   -- One desk holds all acts of h, and they are es.
@@ -67,10 +53,10 @@ module _ (R : Replica) (n : ℕ) (start : R .State) where
     abbrev S : Acts
     S = latest R start h (held .holder)
 
-    abbrev asked : History R
+    abbrev pub asked : History R
     asked = take e (held .holder) (length h) ∷ h
 
-    abbrev entered : History R
+    abbrev pub entered : History R
     entered = act e a ∷ asked
 
     asked-holds : (i : ℕ) → latest R start asked i ≡ cond (eqb i e) S (latest R start h i)
@@ -87,10 +73,10 @@ module _ (R : Replica) (n : ℕ) (start : R .State) where
     entered-all = acted e a asked fits e ∙ rw (eq-eqb e e refl, asked-all)
 
     -- the other desks hold what they held
-    entered-others : (i : ℕ) → i ≢ e → latest R start entered i ≡ latest R start h i
+    pub entered-others : (i : ℕ) → i ≢ e → latest R start entered i ≡ latest R start h i
     entered-others i d = acted e a asked fits i ∙ rw (ne-eqb i e d) (asked-holds i ∙ rw (ne-eqb i e d))
 
-    one-more : Held ((e, a) ∷ es) entered
+    pub one-more : Held ((e, a) ∷ es) entered
     unfolding entries
     one-more =
         record {
@@ -159,51 +145,7 @@ module _ (R : Replica) (n : ℕ) (start : R .State) where
   pub level : (d : ℕ) → d < n → (es : List (ℕ × R .Act)) → Entered R n start es → (h : History R) × Level es h
   level d d<n es x = let (h, held) = relayed d d<n es x in (told held n, levelled held)
 
-  -- From there the others may go on without desk d: it holds es, and all acts made are fs.
-  pub record Apart (d : ℕ) (es fs : List (ℕ × R .Act)) (h : History R) : Type 0 where
-    pub held : Held fs h
-    pub own-acts : entries h (latest R start h d) ≡ es
-
-  apart : (d : ℕ) → d < n → {es fs : List (ℕ × R .Act)} → Beyond d es fs → Entered R n start fs → (h : History R) × Apart d es fs h
-  unfolding entries
-  apart d d<n {es} none x =
-      let (h, l) = level d d<n es x in
-      let mine = l .all d d<n in (
-        h,
-        record {
-          held = record { valid = l .valid; holder = d; there = d<n; all = λ i b q p. rw mine (rw (l .all i b) at p); acts = rw mine (l .acts) };
-          own-acts = rw mine (l .acts);
-        },
-      )
-  apart d d<n (more {x = x} other b) y =
-      let (h, a) = apart d d<n b (y .2) in
-      let held = a .held in
-      let T = latest R start h d in
-      let new : T (suc (length h)) ≡ false = fails _ (λ q. omega (arith, ledger-sound R n start h (held .valid) (length h) d .early _ q)) in (
-        entered held (x .0) (x .1) (y .0) (y .1),
-        record {
-          held = one-more held (x .0) (x .1) (y .0) (y .1);
-          own-acts = rw (entered-others held (x .0) (x .1) (y .0) (y .1) d (λ q. other (sym q)))
-              (entries-skip (act (x .0) (x .1)) (asked held (x .0) (x .1) (y .0) (y .1)) T new ∙ a .own-acts);
-        },
-      )
-
 module _ {R : Replica} {n : ℕ} {Within : R .State → Type 0} {start : R .State} (laws : Laws R n Within start) where
   -- every set of the ledger has a history after which all desks hold just that set
   pub every-set : (h : History R) → Valid n h → (m i : ℕ) → i < n → (g : History R) × Level R n start (entries h (ledger R start h m i)) g
   every-set h v m i l = level R n start i l _ (ran laws h v _ (ledger-sound R n start h v m i .good))
-
-  -- and each run that goes on without desk d has one in which d's state stays, and all acts made have that run's
-  pub unheard : (d : ℕ) → d < n → {es fs : List (ℕ × R .Act)} → Beyond d es fs → Entered R n start fs
-      → (h : History R) × Valid n h × (books R start h (length h) d ≡ run R start es) × (global R n start h (length h) ≡ run R start fs)
-  unfolding global made
-  unheard d d<n b x =
-      let (h, a) = apart R n start d d<n b x in
-      let held = a .held in
-      let all : made R n start h (length h) ≡ latest R start h (held .holder)
-      = equal-sets (unions-within n _ (held .all)) (unions-have n (λ i. latest R start h i) (held .holder) (held .there)) in (
-        h,
-        held .valid,
-        sequential laws h (held .valid) (length h) d ∙ lone-run R start h _ ∙ ap (run R start) (a .own-acts),
-        ap (lone R start h) all ∙ lone-run R start h _ ∙ ap (run R start) (held .acts),
-      )

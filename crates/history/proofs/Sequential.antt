@@ -3,12 +3,12 @@
 use Prim.Native.Nat.{ℕ}
 use native.Mathlib.Nat.{lt-irrefl}
 use mathlib.Core.Path.{_≡_, refl, sym, _∙_, ap, ap₂}
-use mathlib.Core.List.{[], _∷_}
+use mathlib.Core.List.{List, [], _∷_}
 use lib.ListN.{length}
 use Rattle.history.specs.Replica.{Replica, Call, act, take, Valid}
 use Rattle.history.specs.Books.{at, called, books}
 use Rattle.history.specs.Ledger.{Acts, gained, lone, heldAfter, ledger}
-use Rattle.history.proofs.Laws.{Laws}
+use Rattle.history.proofs.Laws.{run, Entered, Laws}
 use Rattle.history.proofs.Sets.{fails}
 use Rattle.history.proofs.Moments.{History, latest, after, by-answer}
 use Rattle.history.proofs.Entries.{entries, lone-run, lone-skip, lone-joined}
@@ -58,3 +58,10 @@ module _ {R : Replica} {n : ℕ} {Within : R .State → Type 0} {start : R .Stat
       let s = ledger-sound R n start h w in
       after R start (λ s S. s ≡ lone R start (c ∷ h) S) c h m i
       (unmoved c h (s m i) (p m i)) (unmoved c h (s (length h) i) (p (length h) i)) (called-lone c h v p)
+
+  -- so every state is the run of some entered acts
+  pub entered-run : (h : History R) → Valid n h → (m i : ℕ)
+      → (es : List (ℕ × R .Act)) × Entered R n start es × (books R start h m i ≡ run R start es)
+  entered-run h v m i =
+      let S = ledger R start h m i in
+      (entries h S, ran laws h v S (ledger-sound R n start h v m i .good), sequential h v m i ∙ lone-run R start h S)

@@ -1,7 +1,7 @@
 -- Sets of acts, compared by their members: each fact is by the cases of a test.
 -- Assumes nothing.
-use mathlib.Core.Path.{_≡_, refl, sym}
-use mathlib.Core.Logic.{_⊎_, inl, inr}
+use mathlib.Core.Path.{_≡_, refl, sym, fun-ext}
+use mathlib.Core.Logic.{_⊎_, inl, inr, ⊎-elim}
 use mathlib.Core.Bool.{Bool, true, false, cond, _||_, false≢true, or-true}
 use Rattle.history.specs.Ledger.{Acts, gained}
 use Rattle.history.specs.Guarantees.{_⊆_}
@@ -21,6 +21,12 @@ pub same : (a b : Bool) → (a ≡ true → b ≡ true) → (b ≡ true → a �
 same true b f g = sym (f refl)
 same false true f g = g refl
 same false false f g = refl
+
+pub equal-sets : {S T : Acts} → S ⊆ T → T ⊆ S → S ≡ T
+equal-sets st ts = fun-ext (λ q. same _ _ (st q) (ts q))
+
+pub gained-wider : {S T : Acts} → S ⊆ T → gained S T ≡ T
+gained-wider {S} {T} st = equal-sets (λ q p. ⊎-elim (st q) (λ t. t) (or-split (S q) p)) (right S T)
 
 pub fails : (b : Bool) → (b ≡ true → ⊥) → b ≡ false
 fails b f = same b false (λ p. absurd (f p)) (λ p. absurd (false≢true p))

@@ -39,15 +39,20 @@ abbrev pub BookDemand3 : Type 0
 BookDemand3 =
     (n p : ℕ) (l : List ℕ) → openingAnswer n p l (bookLength n p) ≡ 0 → Demand3 book n Within (opened n p l)
 
--- Between: at every moment of every history, on each pile, the tonnage by all acts made lies between the least and the most on desk d's line of its
--- own book of that moment.
+-- x tonnes are possible on pile k, by desk d's line of its own book: from its least to its most
+abbrev pub Possible : ℕ → List ℕ → ℕ → ℕ → Type 0
+Possible d own k x = (least (desks own) (pileOf own k) d ≤ x) × (x ≤ most (desks own) (pileOf own k) d)
+
+abbrev pub tonnageOf : List ℕ → ℕ → ℕ
+tonnageOf b k = tonnage (desks b) (pileOf b k)
+
+-- on each pile of desk d's own book, what another book has is possible
 abbrev pub Between : ℕ → List ℕ → List ℕ → Type 0
 Between d own all =
-    (k : ℕ) → k < piles own
-    → (pileNumber all k ≡ pileNumber own k)
-    × (least (desks own) (pileOf own k) d ≤ tonnage (desks all) (pileOf all k))
-    × (tonnage (desks all) (pileOf all k) ≤ most (desks own) (pileOf own k) d)
+    (k : ℕ) → k < piles own → (pileNumber all k ≡ pileNumber own k) × Possible d own k (tonnageOf all k)
 
+-- Between: at every moment of every history, by all acts made until then each pile has a tonnage from least to most of every desk's own book of that
+-- moment, on that desk's line.
 abbrev pub BookBetween : Type 0
 BookBetween =
     (n p : ℕ) (l : List ℕ) → openingAnswer n p l (bookLength n p) ≡ 0 → (h : List (Call Act)) → Valid n h
@@ -59,20 +64,18 @@ TalliesUpTo limit b =
     (k i : ℕ) → k < piles b → i < desks b → (s : Side)
     → (pileOf b k .earned s i ≤ limit) × ((j : ℕ) → j < desks b → pileOf b k .give s i j ≤ limit)
 
--- a list of calls that leaves desk d with the book `own`, and pile k with the tonnage x by all acts made
+-- a list of calls that leaves desk d with the book `own`, and by all acts made pile k with x tonnes
 pub record Reached (n : ℕ) (start : List ℕ) (d : ℕ) (own : List ℕ) (k x : ℕ) : Type 0 where
   pub calls : List (Call Act)
   pub valid : Valid n calls
   pub own-book : books book start calls (length calls) d ≡ own
   pub same-pile : pileNumber (global book n start calls (length calls)) k ≡ pileNumber own k
-  pub tonnage-is :
-      tonnage (desks (global book n start calls (length calls))) (pileOf (global book n start calls (length calls)) k) ≡ x
+  pub tonnage-is : tonnageOf (global book n start calls (length calls)) k ≡ x
 
--- Reached: after every history, where no tally of desk d's newest book is over 990,000,000, each pile of it can have every whole number of tonnes
--- from least to most: some list of calls from the same opening ends with that same book and those tonnes.
+-- Reached: after every history, where no tally of desk d's newest book is over 990,000,000, each possible tonnage of each pile comes up: some list of
+-- calls from the same opening ends with that same book of desk d, and with that tonnage by all acts made.
 abbrev pub BookReached : Type 0
 BookReached =
     (n p : ℕ) (l : List ℕ) → openingAnswer n p l (bookLength n p) ≡ 0 → (h : List (Call Act)) → Valid n h → (d : ℕ) → d < n
     → let own = books book (opened n p l) h (length h) d in
-    TalliesUpTo 990000000 own → (k x : ℕ) → k < piles own → least (desks own) (pileOf own k) d ≤ x → x ≤ most (desks own) (pileOf own k) d
-    → Reached n (opened n p l) d own k x
+    TalliesUpTo 990000000 own → (k x : ℕ) → k < piles own → Possible d own k x → Reached n (opened n p l) d own k x

@@ -1,4 +1,4 @@
--- Cases a to j of document 01 as one table under one theorem, on the bytes of F and G.
+-- Cases a to j of document 01, and G's least and most (1/12), as one table under one theorem, on the bytes of F and G.
 -- Assumes nothing.
 use Prim.Native.Nat.{ℕ}
 use mathlib.Core.Path.{refl}
@@ -7,8 +7,9 @@ use Rattle.rules.specs.Pile.{draw, tip}
 use Rattle.rules.specs.Acts.{Kind, spend, give}
 use Rattle.rules.specs.Opening.{openingAnswer, opened}
 use Rattle.rules.specs.Book.{tonnageReply, rightsReply, actAnswer}
+use Rattle.rules.specs.Bounds.{boundReply}
 use Rattle.rules.specs.Take.{takeAnswer, afterTake}
-use Rattle.rules.proofs.Cases.Table.{Case, case, AllHold, all-hold, shown, actOn, enter, open-loops, open-refusals, open-numbers, open-pile, open-acts, open-layout, open-rows, open-opening, open-book, open-take}
+use Rattle.rules.proofs.Cases.Table.{Case, case, AllHold, all-hold, shown, actOn, enter, open-loops, open-refusals, open-numbers, open-pile, open-acts, open-layout, open-rows, open-opening, open-book, open-take, open-bounds}
 
 -- the worked book F: 3 desks, pile 7, floor 10, top 110, draw shares 0, 0, 0, tip shares 40, 30, 30
 abbrev pub F : List ℕ
@@ -46,10 +47,18 @@ table =
     (enter 0 7 (spend draw) 5
     (enter 0 7 (give draw 2) 10 (enter 0 7 (give draw 1) 10 (enter 1 7 (spend tip) 1 (enter 0 7 (spend tip) 30 F)))))))
     G
-    ∷ case "G now 30" (shown (tonnageReply G 7)) (0 ∷ 30 ∷ [])
-    ∷ case "a: F now 10" (shown (tonnageReply F 7)) (0 ∷ 10 ∷ [])
+    ∷ case "G known 30" (shown (tonnageReply G 7)) (0 ∷ 30 ∷ [])
+    ∷ case "G: of desks 0, 1 and 2 least 15, 17 and 18, most 95, 77 and 78"
+    (shown (boundReply draw 0 G 7)
+    ++ shown (boundReply draw 1 G 7)
+    ++ shown (boundReply draw 2 G 7)
+    ++ shown (boundReply tip 0 G 7)
+    ++ shown (boundReply tip 1 G 7)
+    ++ shown (boundReply tip 2 G 7))
+    (0 ∷ 15 ∷ 0 ∷ 17 ∷ 0 ∷ 18 ∷ 0 ∷ 95 ∷ 0 ∷ 77 ∷ 0 ∷ 78 ∷ [])
+    ∷ case "a: F known 10" (shown (tonnageReply F 7)) (0 ∷ 10 ∷ [])
     ∷ case "b: F, desk 0 draws 1: 14" (answers 0 (spend draw) (1 ∷ []) F) (14 ∷ [])
-    ∷ case "c: F, desk 0 tips 40: now 50, tip rights 0"
+    ∷ case "c: F, desk 0 tips 40: known 50, tip rights 0"
     (shown (tonnageReply (enter 0 7 (spend tip) 40 F) 7) ++ shown (rightsReply tip 0 (enter 0 7 (spend tip) 40 F) 7))
     (0 ∷ 50 ∷ 0 ∷ 0 ∷ [])
     ∷ case "d: F, desk 0 tips 41: 14" (answers 0 (spend tip) (41 ∷ []) F) (14 ∷ [])
@@ -74,5 +83,5 @@ table =
     ∷ []
 
 pub cases-hold : AllHold table
-unfolding open-loops open-refusals open-numbers open-pile open-acts open-layout open-rows open-opening open-book open-take
+unfolding open-loops open-refusals open-numbers open-pile open-acts open-layout open-rows open-opening open-book open-take open-bounds
 cases-hold = all-hold table refl

@@ -14,8 +14,9 @@ use Rattle.rules.specs.Rows.{laterRow}
 use Rattle.rules.specs.Opening.{bufferLength, openingAnswer, opened, afterOpening}
 use Rattle.rules.specs.Book.{bookAnswer, contentsAnswer, afterContents, fetchAnswer, bodyPart, bodyStart, tonnageReply, rightsReply, actAnswer}
 use Rattle.rules.specs.Record.{Record, zeroRecord, recordAnswer, recordTonnageReply, recordRightsReply, recordActAnswer, fetched, storeAnswer}
+use Rattle.rules.specs.Bounds.{boundReply, recordBoundReply, recordBounds}
 use Rattle.rules.specs.Take.{takeAnswer, afterTake}
-use Rattle.rules.proofs.Cases.Table.{Case, case, AllHold, all-hold, shown, actOn, enter, open-loops, open-refusals, open-numbers, open-pile, open-acts, open-layout, open-rows, open-opening, open-book, open-record, open-take}
+use Rattle.rules.proofs.Cases.Table.{Case, case, AllHold, all-hold, shown, actOn, enter, open-loops, open-refusals, open-numbers, open-pile, open-acts, open-layout, open-rows, open-opening, open-book, open-record, open-take, open-bounds}
 use Rattle.rules.proofs.Cases.Letters.{F}
 
 -- H: 2 desks; pile 5 with floor 10, top 50, draw shares 4, 6, tip shares 20, 10; pile 9 with floor 0, top 8, draw shares 1, 2, tip shares 3, 2.
@@ -159,6 +160,20 @@ table =
     ++ shown (recordRightsReply tip 2 R)
     ++ shown (recordRightsReply tip 1 R))
     (3 ∷ 11 ∷ 10 ∷ 0 ∷ 2 ∷ 2 ∷ 11 ∷ 0 ∷ 2 ∷ [])
+    ∷ case "Least and most, refused as rights are: the book's own, 11, 10; the record's own, 11"
+    (shown (boundReply draw 2 (take 159 H) 6)
+    ++ shown (boundReply tip 2 H 6)
+    ++ shown (boundReply draw 1 H 6)
+    ++ shown (boundReply draw 0 H 5)
+    ++ shown (boundReply tip 0 H 5)
+    ++ shown (recordBoundReply draw 2 (with-n 9 R))
+    ++ shown (recordBoundReply tip 2 R)
+    ++ shown (recordBoundReply draw 1 R)
+    ++ shown (recordBoundReply tip 1 R))
+    (3 ∷ 11 ∷ 10 ∷ 0 ∷ 14 ∷ 0 ∷ 30 ∷ 2 ∷ 11 ∷ 0 ∷ 2 ∷ 0 ∷ 6 ∷ [])
+    ∷ case "Least and most of all desks of a record: 0 past n, and where it is refused"
+    (recordBounds draw R ++ recordBounds tip R ++ recordBounds tip (with-n 9 R))
+    ((1 ∷ 2 ∷ 0 ∷ 0 ∷ 0 ∷ 0 ∷ 0 ∷ 0 ∷ []) ++ (5 ∷ 6 ∷ 0 ∷ 0 ∷ 0 ∷ 0 ∷ 0 ∷ 0 ∷ []) ++ (0 ∷ 0 ∷ 0 ∷ 0 ∷ 0 ∷ 0 ∷ 0 ∷ 0 ∷ []))
     ∷ case "Tonnage and fetch: the book's own, 10; the part is empty where fetch refuses"
     (shown (tonnageReply (take 159 H) 6)
     ++ shown (tonnageReply H 6)
@@ -220,5 +235,5 @@ table =
     ∷ []
 
 pub places-hold : AllHold table
-unfolding open-loops open-refusals open-numbers open-pile open-acts open-layout open-rows open-opening open-book open-record open-take
+unfolding open-loops open-refusals open-numbers open-pile open-acts open-layout open-rows open-opening open-book open-record open-take open-bounds
 places-hold = all-hold table refl

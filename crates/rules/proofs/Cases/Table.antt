@@ -17,6 +17,7 @@ use Rattle.rules.specs.Rows.{atLeast, alike, later, split, isRowLength, 
 use Rattle.rules.specs.Opening.{rising, given, givenPile, bufferLength, openingAnswer, opened, afterOpening}
 use Rattle.rules.specs.Book.{headSound, contentsSound, bookAnswer, place, absent, contentsAnswer, afterContents, fetchAnswer, bodyPart, bodyStart, tonnageReply, deskAnswer, rightsReply, actAnswer, tallyAt, afterAct}
 use Rattle.rules.specs.Record.{unusedShares, unusedPlaces, recordAnswer, freshAnswer, recordTonnageReply, recordDeskAnswer, recordRightsReply, recordActAnswer, paddedRow, recordOf, fetched, storeAnswer, afterStore}
+use Rattle.rules.specs.Bounds.{least, most, boundReply, recordBoundReply, recordBounds}
 use Rattle.rules.specs.Take.{rowPart, sameBook, rowAnswer, takeAnswer, takenRow, taken, afterTake}
 
 pub record Case : Type 0 where
@@ -112,3 +113,7 @@ open-record = tt
 unfoldable pub open-take : Unit {0}
 unfolding rowPart sameBook rowAnswer takeAnswer takenRow taken afterTake
 open-take = tt
+
+unfoldable pub open-bounds : Unit {0}
+unfolding least most boundReply recordBoundReply recordBounds
+open-bounds = tt

@@ -10,7 +10,7 @@ use Rattle.history.proofs.Made.{always}
 use Rattle.rules.specs.Pile.{draw, tip, Pile, rights}
 use Rattle.rules.specs.Acts.{Act}
 use Rattle.rules.specs.Layout.{bookLength, bookBytes}
-use Rattle.rules.specs.Opening.{given, givenPile, openingAnswer, opened}
+use Rattle.rules.specs.Opening.{given, givenPile, opened}
 use Rattle.rules.specs.Bounds.{least, most}
 use Rattle.rules.specs.Demand.{book, Between, BookBetween}
 use Rattle.rules.proofs.Loops.Sums.{term-le}
@@ -38,23 +38,25 @@ module _ (n p : ℕ) (numbers : ℕ → ℕ) (frame : Frame n p numbers) (start 
       let Q : Pile = grown p numbers start fs k in
       let more = rights-grow n p numbers start es fs k d grew same in (
         written-number n p numbers frame _ k l ∙ sym (written-number n p numbers frame _ k l),
-        omega (
-          arith,
-          a .floor,
-          rights-cong n _ _ a draw d d<n,
-          more draw,
-          term-le n d (rights n Q draw) d<n,
-          tonnage-floor n Q (all .1 k l),
-          tonnage-cong n _ _ b,
-        ),
-        omega (
-          arith,
-          a .top,
-          rights-cong n _ _ a tip d d<n,
-          more tip,
-          term-le n d (rights n Q tip) d<n,
-          tonnage-top n Q (all .1 k l),
-          tonnage-cong n _ _ b,
+        (
+          omega (
+            arith,
+            a .floor,
+            rights-cong n _ _ a draw d d<n,
+            more draw,
+            term-le n d (rights n Q draw) d<n,
+            tonnage-floor n Q (all .1 k l),
+            tonnage-cong n _ _ b,
+          ),
+          omega (
+            arith,
+            a .top,
+            rights-cong n _ _ a tip d d<n,
+            more tip,
+            term-le n d (rights n Q tip) d<n,
+            tonnage-top n Q (all .1 k l),
+            tonnage-cong n _ _ b,
+          ),
         ),
       ))
 

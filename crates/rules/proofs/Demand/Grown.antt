@@ -102,7 +102,7 @@ module _ (p : ℕ) (numbers : ℕ → ℕ) (start : ℕ → Pile) where
       }
 
   -- entering one act more
-  one-more : (n d q t : ℕ) (kind : Kind) (es : List (ℕ × Act)) (k : ℕ) (b : Bool) → eqb k (at p numbers q) ≡ b
+  pub one-more : (n d q t : ℕ) (kind : Kind) (es : List (ℕ × Act)) (k : ℕ) (b : Bool) → eqb k (at p numbers q) ≡ b
       → Agree n (cond b (acted (grown es k) d kind t) (grown es k)) (grown ((d, record { kind = kind; pile = q; amount = t }) ∷ es) k)
   unfolding acted
   one-more n d q t (spend s′) es k true e =
