@@ -59,7 +59,7 @@ module _ {R : Replica} {n : ℕ} {Within : R .State → Type 0} {start : R .Stat
     → ((e : ℕ) → Ends (own e es) (own e fs)) → own d es ≡ own d fs → Sure d (run R start es) (run R start fs)) where
   made-sound : (h : History R) → Valid n h → (m : ℕ) → Sound R n start (made R n start h m) h
   unfolding made
-  made-sound h v m = unions-sound n _ (ledger-sound R n start h v m)
+  made-sound h v m = unions-sound n _ (λ i. ledger-sound R n start h v m _)
 
   newest : (h : History R) → Valid n h → (d : ℕ) → d < n → Sure d (books R start h (length h) d) (global R n start h (length h))
   unfolding global made
