@@ -143,10 +143,21 @@ uint8_t pit_draw_rights(const uint8_t *book, size_t book_length, uint8_t desk, u
 uint8_t pit_tip_rights(const uint8_t *book, size_t book_length, uint8_t desk, uint16_t pile, uint32_t *out);
 
 /*
- * A pile's tonnage now, by this book, to out.
+ * A pile's known tonnage, to out: by the acts that this book holds, and no others. It is not what lies on the ground while acts of
+ * other desks have not come in yet; pit_least and pit_most say how far off that can be.
  * Answers 1 to 7 for the book, 10, or 0; out stays where it is not 0.
  */
 uint8_t pit_tonnage(const uint8_t *book, size_t book_length, uint16_t pile, uint32_t *out);
+
+/*
+ * What a desk can be sure of: the least or the most that a pile has, in tonnes, to out. The least is floor + the desk's draw rights,
+ * for these nobody else can draw; the most is top - its tip rights, for that space nobody else can fill. Where the book is the desk's
+ * own newest: at this moment all acts made so far anywhere, whether this book holds them or not, leave the pile's tonnage between the
+ * two, both included.
+ * Answers 1 to 7 for the book, 11, 10, or 0; out stays where it is not 0.
+ */
+uint8_t pit_least(const uint8_t *book, size_t book_length, uint8_t desk, uint16_t pile, uint32_t *out);
+uint8_t pit_most(const uint8_t *book, size_t book_length, uint8_t desk, uint16_t pile, uint32_t *out);
 
 /*
  * Fetches a pile's record, as PIT_RECORD_NUMBERS numbers; those past them stay.

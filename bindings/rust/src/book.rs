@@ -28,6 +28,7 @@ use crate::{Entry, PILES, RECORD_NUMBERS, Record, Refusal, raw, refusal::done};
 /// assert_eq!((book.draw_rights(0, 7)?, book.tip_rights(0, 7)?), (5, 15));
 /// assert_eq!((book.draw_rights(1, 7)?, book.tip_rights(1, 7)?), (7, 33));
 /// assert_eq!((book.draw_rights(2, 7)?, book.tip_rights(2, 7)?), (8, 32));
+/// assert_eq!((book.least(0, 7)?, book.most(0, 7)?), (15, 95));
 /// assert_eq!(book.tonnage(8), Err(Refusal::PileAbsent));
 /// # Ok::<(), Refusal>(())
 /// ```
@@ -126,10 +127,78 @@ impl<B: AsRef<[u8]>> Book<B> {
         Ok(tonnes)
     }
 
-    /// A pile's tonnage now, by the acts that this book holds. Refused with [`PileAbsent`](Refusal::PileAbsent).
+    /// A pile's known tonnage: by the acts that this book holds, and no others. It is not what lies on the ground while acts of other desks
+    /// have not come in yet; [`least`](Book::least) and [`most`](Book::most) say how far off that can be. Refused with
+    /// [`PileAbsent`](Refusal::PileAbsent).
     pub fn tonnage(&self, pile: u16) -> Result<u32, Refusal> {
         let mut tonnes = 0;
         done(raw::tonnage(self.as_bytes(), pile, &mut tonnes))?;
+        Ok(tonnes)
+    }
+
+    /// The least that a pile has, as far as a desk can be sure: floor + its draw rights, for these nobody else can draw. Where this is the
+    /// desk's own newest book, all acts made so far anywhere, whether it holds them or not, leave the pile at least so many tonnes.
+    ///
+    /// Refused with [`DeskAbsent`](Refusal::DeskAbsent), then [`PileAbsent`](Refusal::PileAbsent).
+    ///
+    /// ```
+    /// use pitbook::{Opening, Refusal};
+    ///
+    /// # let mut g = Opening::new(3).pile(7, 10, 110, &[0, 0, 0], &[40, 30, 30]).to_book()?;
+    /// # g.tip(0, 7, 30)?;
+    /// # g.tip(1, 7, 1)?;
+    /// # g.give_draw(0, 7, 1, 10)?;
+    /// # g.give_draw(0, 7, 2, 10)?;
+    /// # g.draw(0, 7, 5)?;
+    /// # g.draw(1, 7, 4)?;
+    /// # g.draw(2, 7, 2)?;
+    /// // G of document 01, see `Book`.
+    /// assert_eq!([g.least(0, 7)?, g.least(1, 7)?, g.least(2, 7)?], [15, 17, 18]);
+    ///
+    /// // Desk 1 has not heard of what desk 0 draws, and still knows how little there can be.
+    /// let mut elsewhere = g.clone();
+    /// elsewhere.draw(0, 7, 5)?;
+    /// assert_eq!((g.tonnage(7)?, elsewhere.tonnage(7)?), (30, 25));
+    /// assert!(g.least(1, 7)? <= elsewhere.tonnage(7)?);
+    /// assert_eq!(g.least(3, 8), Err(Refusal::DeskAbsent));
+    /// # Ok::<(), Refusal>(())
+    /// ```
+    pub fn least(&self, desk: u8, pile: u16) -> Result<u32, Refusal> {
+        let mut tonnes = 0;
+        done(raw::least(self.as_bytes(), desk, pile, &mut tonnes))?;
+        Ok(tonnes)
+    }
+
+    /// The most that a pile has, as far as a desk can be sure: top - its tip rights, for that space nobody else can fill. Where this is the
+    /// desk's own newest book, all acts made so far anywhere, whether it holds them or not, leave the pile at most so many tonnes.
+    ///
+    /// Refused with [`DeskAbsent`](Refusal::DeskAbsent), then [`PileAbsent`](Refusal::PileAbsent).
+    ///
+    /// ```
+    /// use pitbook::{Opening, Refusal};
+    ///
+    /// # let mut g = Opening::new(3).pile(7, 10, 110, &[0, 0, 0], &[40, 30, 30]).to_book()?;
+    /// # g.tip(0, 7, 30)?;
+    /// # g.tip(1, 7, 1)?;
+    /// # g.give_draw(0, 7, 1, 10)?;
+    /// # g.give_draw(0, 7, 2, 10)?;
+    /// # g.draw(0, 7, 5)?;
+    /// # g.draw(1, 7, 4)?;
+    /// # g.draw(2, 7, 2)?;
+    /// // G of document 01, see `Book`.
+    /// assert_eq!([g.most(0, 7)?, g.most(1, 7)?, g.most(2, 7)?], [95, 77, 78]);
+    ///
+    /// // Desk 1 has not heard of what desk 0 tips, and still knows how much there can be.
+    /// let mut elsewhere = g.clone();
+    /// elsewhere.tip(0, 7, 15)?;
+    /// assert_eq!((g.tonnage(7)?, elsewhere.tonnage(7)?), (30, 45));
+    /// assert!(elsewhere.tonnage(7)? <= g.most(1, 7)?);
+    /// assert_eq!(g.most(0, 8), Err(Refusal::PileAbsent));
+    /// # Ok::<(), Refusal>(())
+    /// ```
+    pub fn most(&self, desk: u8, pile: u16) -> Result<u32, Refusal> {
+        let mut tonnes = 0;
+        done(raw::most(self.as_bytes(), desk, pile, &mut tonnes))?;
         Ok(tonnes)
     }
 

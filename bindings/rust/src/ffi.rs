@@ -89,6 +89,22 @@ unsafe extern "C" {
 
     pub(crate) fn pit_tonnage(book: *const u8, book_length: usize, pile: u16, out: *mut u32) -> u8;
 
+    pub(crate) fn pit_least(
+        book: *const u8,
+        book_length: usize,
+        desk: u8,
+        pile: u16,
+        out: *mut u32,
+    ) -> u8;
+
+    pub(crate) fn pit_most(
+        book: *const u8,
+        book_length: usize,
+        desk: u8,
+        pile: u16,
+        out: *mut u32,
+    ) -> u8;
+
     pub(crate) fn pit_fetch(
         book: *const u8,
         book_length: usize,

@@ -10,9 +10,9 @@
 //! assert_eq!(raw::open(3, 1, &[7, 10, 110, 0, 0, 0, 40, 30, 30], &mut f), 0);
 //! assert_eq!(raw::tip(&mut f, 0, 7, 41), 14);
 //! assert_eq!(raw::tip(&mut f, 0, 7, 40), 0);
-//! let mut now = 0;
-//! assert_eq!(raw::tonnage(&f, 7, &mut now), 0);
-//! assert_eq!(now, 50);
+//! let mut known = 0;
+//! assert_eq!(raw::tonnage(&f, 7, &mut known), 0);
+//! assert_eq!(known, 50);
 //! ```
 
 use crate::ffi;
@@ -107,10 +107,22 @@ pub fn tip_rights(book: &[u8], desk: u8, pile: u16, out: &mut u32) -> u8 {
     unsafe { ffi::pit_tip_rights(book.as_ptr(), book.len(), desk, pile, out) }
 }
 
-/// A pile's tonnage now, by this book. Refused with 1 to 7 or 10, and then `out` stays.
+/// A pile's known tonnage: by the acts that this book holds, and no others. Refused with 1 to 7 or 10, and then `out` stays.
 pub fn tonnage(book: &[u8], pile: u16, out: &mut u32) -> u8 {
     // SAFETY: the references lend all that the call reads and writes; see the top.
     unsafe { ffi::pit_tonnage(book.as_ptr(), book.len(), pile, out) }
+}
+
+/// The least that a pile has, as far as a desk can be sure: floor + its draw rights. Refused with 1 to 7, 11 or 10, and then `out` stays.
+pub fn least(book: &[u8], desk: u8, pile: u16, out: &mut u32) -> u8 {
+    // SAFETY: the references lend all that the call reads and writes; see the top.
+    unsafe { ffi::pit_least(book.as_ptr(), book.len(), desk, pile, out) }
+}
+
+/// The most that a pile has, as far as a desk can be sure: top - its tip rights. Refused with 1 to 7, 11 or 10, and then `out` stays.
+pub fn most(book: &[u8], desk: u8, pile: u16, out: &mut u32) -> u8 {
+    // SAFETY: the references lend all that the call reads and writes; see the top.
+    unsafe { ffi::pit_most(book.as_ptr(), book.len(), desk, pile, out) }
 }
 
 /// A pile's record as [`RECORD_NUMBERS`](crate::RECORD_NUMBERS) numbers. Refused with 1 to 7, 10, then 8 where `record` is shorter.
