@@ -17,11 +17,11 @@ use support::places::{LIBRARY, MODEL, PLACES};
 use support::{case, from_environment, judge, say, seed};
 
 /// Calls compared in all, if PITBOOK_CASES is not set.
-const CASES: u64 = 450_000;
+const CASES: u64 = 510_000;
 
 /// Document 01, "Refusals by place": the numbers that can come from a place,
 /// 0 (done) first. Each must be reached.
-const EXPECTED: [(&str, &[u8]); 17] = [
+const EXPECTED: [(&str, &[u8]); 19] = [
     // "Opening: 2, 3, 4, 5, by pile. 8"
     ("open", &[0, 2, 3, 4, 5, 8]),
     // "Book bytes: 1 to 4", "Each body, in file order: 5 to 7"
@@ -54,6 +54,9 @@ const EXPECTED: [(&str, &[u8]); 17] = [
     ("tip_rights", &[0, 1, 2, 3, 4, 5, 6, 7, 11, 10]),
     // "Tonnage, fetch, store: the book's own, then 10"
     ("tonnage", &[0, 1, 2, 3, 4, 5, 6, 7, 10]),
+    // As rights.
+    ("least", &[0, 1, 2, 3, 4, 5, 6, 7, 11, 10]),
+    ("most", &[0, 1, 2, 3, 4, 5, 6, 7, 11, 10]),
     // Last 8, the lent record too short.
     ("fetch", &[0, 1, 2, 3, 4, 5, 6, 7, 10, 8]),
     // The book's own.
@@ -209,6 +212,16 @@ fn tip_rights() {
 #[test]
 fn tonnage() {
     compare(Place::Tonnage);
+}
+
+#[test]
+fn least() {
+    compare(Place::Least);
+}
+
+#[test]
+fn most() {
+    compare(Place::Most);
 }
 
 #[test]

@@ -28,7 +28,7 @@ fn g() -> Book<Vec<u8>> {
     book
 }
 
-/// Two desks: pile 3 now 30 of 0 to 100, and pile 500 now 10 of 5 to 10.
+/// Two desks: pile 3 has 30 of 0 to 100, and pile 500 has 10 of 5 to 10.
 fn two_piles() -> Book<Vec<u8>> {
     let opening =
         Opening::new(2)

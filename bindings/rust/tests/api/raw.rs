@@ -51,6 +51,12 @@ fn results_stay_where_refused() {
     assert_eq!(raw::draw_rights(book, 3, 8, &mut tonnes), 11);
     assert_eq!(raw::tip_rights(book, 0, 8, &mut tonnes), 10);
     assert_eq!(raw::tonnage(book, 8, &mut tonnes), 10);
+    assert_eq!(raw::least(book, 3, 8, &mut tonnes), 11);
+    assert_eq!(raw::least(book, 0, 8, &mut tonnes), 10);
+    assert_eq!(raw::most(book, 3, 8, &mut tonnes), 11);
+    assert_eq!(raw::most(book, 0, 8, &mut tonnes), 10);
+    assert_eq!(raw::least(&book[..3], 3, 8, &mut tonnes), 1);
+    assert_eq!(raw::most(&book[..3], 3, 8, &mut tonnes), 1);
     let (mut start, mut length) = (77, 78);
     assert_eq!(raw::body(book, 8, &mut start, &mut length), 10);
     assert_eq!((tonnes, start, length), (77, 77, 78));

@@ -75,6 +75,10 @@ fn acts_and_queries() {
     assert_eq!(book.draw_rights(3, 8), Err(Refusal::DeskAbsent));
     assert_eq!(book.tip_rights(0, 8), Err(Refusal::PileAbsent));
     assert_eq!(book.tonnage(8), Err(Refusal::PileAbsent));
+    assert_eq!(book.least(3, 8), Err(Refusal::DeskAbsent));
+    assert_eq!(book.least(0, 8), Err(Refusal::PileAbsent));
+    assert_eq!(book.most(3, 8), Err(Refusal::DeskAbsent));
+    assert_eq!(book.most(0, 8), Err(Refusal::PileAbsent));
     assert_eq!(book, g());
 }
 

@@ -26,6 +26,28 @@ fn listing_of_g() {
         assert_eq!(g.draw_rights(desk, 7), Ok(draw));
         assert_eq!(g.tip_rights(desk, 7), Ok(tip));
     }
+    for (desk, least, most) in [(0, 15, 95), (1, 17, 77), (2, 18, 78)] {
+        assert_eq!(g.least(desk, 7), Ok(least));
+        assert_eq!(g.most(desk, 7), Ok(most));
+    }
+}
+
+/// A desk that has all rights knows the tonnage; one that has none knows floor and top alone.
+#[test]
+fn what_a_desk_can_be_sure_of() {
+    let mut book = f();
+    for (desk, most) in [(0, 70), (1, 80), (2, 80)] {
+        assert_eq!(
+            (book.least(desk, 7), book.most(desk, 7)),
+            (Ok(10), Ok(most))
+        );
+    }
+    book.give_tip(1, 7, 0, 30).unwrap();
+    book.give_tip(2, 7, 0, 30).unwrap();
+    book.tip(0, 7, 20).unwrap();
+    assert_eq!(book.tonnage(7), Ok(30));
+    assert_eq!((book.least(0, 7), book.most(0, 7)), (Ok(30), Ok(30)));
+    assert_eq!((book.least(1, 7), book.most(1, 7)), (Ok(10), Ok(110)));
 }
 
 #[test]

@@ -124,12 +124,23 @@ impl Pile {
         self.opening.tip_shares[i] + row.drawn + received - made - row.tipped
     }
 
-    /// "Its tonnage now = floor + all draw shares + all tipped - all drawn."
+    /// "Its tonnage now = floor + all draw shares + all tipped - all drawn." It
+    /// is known, since 1/12: "The figure is only what this book holds."
     pub fn tonnage(&self) -> i64 {
         let shares: i64 = self.opening.draw_shares.iter().sum();
         let tipped: i64 = self.rows.iter().map(|row| row.tipped).sum();
         let drawn: i64 = self.rows.iter().map(|row| row.drawn).sum();
         self.opening.floor + shares + tipped - drawn
+    }
+
+    /// 1/12: "`least` (floor + its draw rights)"
+    pub fn least(&self, i: usize) -> i64 {
+        self.opening.floor + self.draw_rights(i)
+    }
+
+    /// 1/12: "`most` (top - its tip rights)"
+    pub fn most(&self, i: usize) -> i64 {
+        self.opening.top - self.tip_rights(i)
     }
 
     /// Table, place "Each body, in file order"; 0 where the pile is lawful.

@@ -218,7 +218,28 @@ pub fn tip_rights(book: &[u8], desk: u8, pile: u16, out: &mut u32) -> u8 {
     }
 }
 
-// Table, place "Act or rights query", for the two queries.
+pub fn least(book: &[u8], desk: u8, pile: u16, out: &mut u32) -> u8 {
+    match rights_query(book, desk, pile) {
+        Ok(found) => {
+            *out = found.least(desk as usize) as u32;
+            0
+        }
+        Err(refusal) => refusal,
+    }
+}
+
+pub fn most(book: &[u8], desk: u8, pile: u16, out: &mut u32) -> u8 {
+    match rights_query(book, desk, pile) {
+        Ok(found) => {
+            *out = found.most(desk as usize) as u32;
+            0
+        }
+        Err(refusal) => refusal,
+    }
+}
+
+// Table, place "Act or rights query", for the queries of a desk: its rights,
+// and what it can be sure of, which answers as they do.
 fn rights_query(book: &[u8], desk: u8, pile: u16) -> Result<Pile, u8> {
     // "the book's ... own, then"
     let parsed = bytes::parse(book)?;

@@ -35,7 +35,7 @@ const G: [u8; 138] = [
     0, 0, 0, 0,  2, 0, 0, 0,  0, 0, 0, 0,  0, 0, 0, 0,  0, 0, 0, 0,  0, 0, 0, 0,  0, 0, 0, 0,  0, 0, 0, 0,
 ];
 
-fn now(book: &[u8]) -> u32 {
+fn known(book: &[u8]) -> u32 {
     let mut out = u32::MAX;
     assert_eq!(tonnage(book, PILE, &mut out), 0);
     out
@@ -51,6 +51,14 @@ fn tipping(book: &[u8], desk: u8) -> u32 {
     let mut out = u32::MAX;
     assert_eq!(tip_rights(book, desk, PILE, &mut out), 0);
     out
+}
+
+/// What a desk can be sure of: the least and the most.
+fn bounds(book: &[u8], desk: u8) -> (u32, u32) {
+    let (mut low, mut high) = (u32::MAX, u32::MAX);
+    assert_eq!(least(book, desk, PILE, &mut low), 0);
+    assert_eq!(most(book, desk, PILE, &mut high), 0);
+    (low, high)
 }
 
 #[test]
@@ -87,10 +95,13 @@ fn g_is_listed() {
     let (mut start, mut length) = (0, 0);
     assert_eq!(body(&G, PILE, &mut start, &mut length), 0);
     assert_eq!((start, length), (10, 128));
-    assert_eq!(now(&G), 30);
+    assert_eq!(known(&G), 30);
     assert_eq!((drawing(&G, 0), tipping(&G, 0)), (5, 15));
     assert_eq!((drawing(&G, 1), tipping(&G, 1)), (7, 33));
     assert_eq!((drawing(&G, 2), tipping(&G, 2)), (8, 32));
+    assert_eq!(bounds(&G, 0), (15, 95));
+    assert_eq!(bounds(&G, 1), (17, 77));
+    assert_eq!(bounds(&G, 2), (18, 78));
 }
 
 #[test]
@@ -118,7 +129,7 @@ fn g_is_fetched_and_stored() {
 #[test]
 fn cases_a_to_d() {
     // a: F now 10.
-    assert_eq!(now(&F), 10);
+    assert_eq!(known(&F), 10);
     // b: F, desk 0 draws 1: 14.
     let mut book = F;
     assert_eq!(draw(&mut book, 0, PILE, 1), 14);
@@ -128,7 +139,7 @@ fn cases_a_to_d() {
     let mut expected = F;
     expected[42] = 40;
     assert_eq!(book, expected);
-    assert_eq!((now(&book), tipping(&book, 0)), (50, 0));
+    assert_eq!((known(&book), tipping(&book, 0)), (50, 0));
     // d: F, desk 0 tips 41: 14.
     let mut book = F;
     assert_eq!(tip(&mut book, 0, PILE, 41), 14);

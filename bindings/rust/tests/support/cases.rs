@@ -170,7 +170,7 @@ fn on_a_book(place: Place, chance: &mut Chance) -> Case {
             case.lent.positions = chance.numbers(counts[1]);
         }
         Place::Body => case.lent.sizes = vec![chance.number() as usize, chance.number() as usize],
-        Place::DrawRights | Place::TipRights | Place::Tonnage => {
+        Place::DrawRights | Place::TipRights | Place::Tonnage | Place::Least | Place::Most => {
             case.lent.numbers = chance.numbers(1);
         }
         Place::Fetch => {
@@ -209,10 +209,10 @@ fn pile_and_desk(chance: &mut Chance, place: Place, book: &Book) -> (usize, usiz
     found
 }
 
-/// The rights that an act needs.
+/// The rights that an act needs, or that a query reads.
 fn rights(place: Place, pile: &Pile, desk: usize) -> i64 {
     match place {
-        Place::Tip | Place::GiveTip => pile.tip_rights(desk),
+        Place::Tip | Place::GiveTip | Place::Most => pile.tip_rights(desk),
         _ => pile.draw_rights(desk),
     }
 }

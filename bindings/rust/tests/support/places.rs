@@ -14,12 +14,14 @@ pub enum Place {
     DrawRights,
     TipRights,
     Tonnage,
+    Least,
+    Most,
     Fetch,
     Store,
     Later,
 }
 
-pub const PLACES: [Place; 15] = [
+pub const PLACES: [Place; 17] = [
     Place::Open,
     Place::Check,
     Place::Contents,
@@ -32,6 +34,8 @@ pub const PLACES: [Place; 15] = [
     Place::DrawRights,
     Place::TipRights,
     Place::Tonnage,
+    Place::Least,
+    Place::Most,
     Place::Fetch,
     Place::Store,
     Place::Later,
@@ -52,6 +56,8 @@ impl Place {
             Place::DrawRights => "draw_rights",
             Place::TipRights => "tip_rights",
             Place::Tonnage => "tonnage",
+            Place::Least => "least",
+            Place::Most => "most",
             Place::Fetch => "fetch",
             Place::Store => "store",
             Place::Later => "later",
@@ -157,7 +163,8 @@ pub struct Slices<'a> {
 
 type Act = fn(&mut [u8], u8, u16, u32) -> u8;
 type Give = fn(&mut [u8], u8, u16, u8, u32) -> u8;
-type Rights = fn(&[u8], u8, u16, &mut u32) -> u8;
+/// Asked for a desk: its rights, and what it can be sure of.
+type OfDesk = fn(&[u8], u8, u16, &mut u32) -> u8;
 
 /// The entry points of the library or of the model.
 pub struct Functions {
@@ -170,9 +177,11 @@ pub struct Functions {
     pub give_draw: Give,
     pub give_tip: Give,
     pub take: fn(&mut [u8], &[u8], u8) -> u8,
-    pub draw_rights: Rights,
-    pub tip_rights: Rights,
+    pub draw_rights: OfDesk,
+    pub tip_rights: OfDesk,
     pub tonnage: fn(&[u8], u16, &mut u32) -> u8,
+    pub least: OfDesk,
+    pub most: OfDesk,
     pub fetch: fn(&[u8], u16, &mut [u32]) -> u8,
     pub store: fn(&mut [u8], u16, &[u32]) -> u8,
     pub later: fn(&[u8], &[u8]) -> u8,
@@ -193,6 +202,8 @@ macro_rules! functions_of {
             draw_rights: $($module)::+::draw_rights,
             tip_rights: $($module)::+::tip_rights,
             tonnage: $($module)::+::tonnage,
+            least: $($module)::+::least,
+            most: $($module)::+::most,
             fetch: $($module)::+::fetch,
             store: $($module)::+::store,
             later: $($module)::+::later,
@@ -231,6 +242,8 @@ impl Functions {
             Place::DrawRights => (self.draw_rights)(book, desk, pile, &mut numbers[0]),
             Place::TipRights => (self.tip_rights)(book, desk, pile, &mut numbers[0]),
             Place::Tonnage => (self.tonnage)(book, pile, &mut numbers[0]),
+            Place::Least => (self.least)(book, desk, pile, &mut numbers[0]),
+            Place::Most => (self.most)(book, desk, pile, &mut numbers[0]),
             Place::Fetch => (self.fetch)(book, pile, numbers),
             Place::Store => (self.store)(book, pile, numbers),
             Place::Later => (self.later)(book, copy),
