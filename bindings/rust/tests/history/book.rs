@@ -182,7 +182,18 @@ impl<'a> Body<'a> {
         }
     }
 
+    /// 1/12: "`least` (floor + its draw rights)"
+    pub fn least(&self, i: usize) -> i64 {
+        self.floor() + self.draw_rights(i)
+    }
+
+    /// 1/12: "`most` (top − its tip rights)"
+    pub fn most(&self, i: usize) -> i64 {
+        self.top() - self.tip_rights(i)
+    }
+
     /// "Its tonnage now = floor + all draw shares + all tipped − all drawn."
+    /// In a desk's book that is what the desk knows.
     pub fn tonnage(&self) -> i64 {
         let moved = |i| self.draw_share(i) + self.tipped(i) - self.drawn(i);
         self.floor() + (0..self.n).map(moved).sum::<i64>()

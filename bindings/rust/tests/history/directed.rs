@@ -189,6 +189,26 @@ fn random_desks_converge() {
     }
 }
 
+/// 1/12: "while another desk's tips were still in the air". What desk 1 knows
+/// is far off then, and what it is sure of holds, to the last tonne.
+#[test]
+fn tips_in_the_air() {
+    let mut trial = Trial::open("tips in the air", f());
+    assert_eq!(trial.act(0, Tip, 7, NOBODY, 40), 0);
+    assert_eq!(trial.act(2, Tip, 7, NOBODY, 30), 0);
+    let all = &trial.ledger().lone_of_all().book;
+    assert_eq!(Body::of(all, 7).unwrap().tonnage(), 80);
+    let body = Body::of(trial.book(1), 7).unwrap();
+    assert_eq!(body.tonnage(), 10);
+    assert_eq!((body.least(1), body.most(1)), (10, 80));
+    // "On that desk's own line": desk 1's book has desk 0's line, too, and there
+    // the most is less.
+    assert_eq!(body.most(0), 70);
+    let mut most = 0;
+    assert_eq!(raw::most(trial.book(1), 0, 7, &mut most), 0);
+    assert_eq!(most, 70);
+}
+
 /// No step of a history, and so beyond the five parts: "the desk acted twice
 /// from one old book". Histories never bring split rows together, hence they
 /// cannot tell the later row from "the maximum place by place without the split

@@ -3,7 +3,7 @@
 //! never their bytes), in their order, and keeps a set of acts for each desk,
 //! empty at the start".
 
-use super::act::Call;
+use super::act::{Act, Call};
 use super::book::Body;
 use super::book::{enter, refusal};
 use std::collections::BTreeSet;
@@ -27,6 +27,8 @@ pub struct Ledger {
     sets: Vec<Vec<Rc<Set>>>,
     /// For each desk's newest set.
     lones: Vec<Rc<Lone>>,
+    /// For all acts made so far.
+    all: Rc<Lone>,
 }
 
 impl Ledger {
@@ -42,7 +44,8 @@ impl Ledger {
             start,
             calls: Vec::new(),
             sets: vec![vec![empty; desks]],
-            lones: vec![lone; desks],
+            lones: vec![Rc::clone(&lone); desks],
+            all: lone,
         }
     }
 
@@ -62,6 +65,31 @@ impl Ledger {
     /// The lone dispatcher's book for the desk's newest set.
     pub fn lone_of(&self, desk: usize) -> &Rc<Lone> {
         &self.lones[desk]
+    }
+
+    /// All acts made so far: what the desks' newest sets hold together.
+    pub fn made(&self) -> Set {
+        let sets = &self.sets[self.moment()];
+        sets.iter().flat_map(|set| set.iter().copied()).collect()
+    }
+
+    /// The lone dispatcher's book for all acts made so far. No desk need have
+    /// it.
+    pub fn lone_of_all(&self) -> &Rc<Lone> {
+        &self.all
+    }
+
+    /// The acts of a desk's newest set, in the order of the list.
+    pub fn acts(&self, desk: usize) -> Vec<Act> {
+        let set = self.set(self.moment(), desk);
+        set.iter().map(|&place| self.act(place)).collect()
+    }
+
+    fn act(&self, place: usize) -> Act {
+        match self.calls[place] {
+            Call::Act(act) => act,
+            Call::Take { .. } => panic!("place {place} of the list is no act"),
+        }
     }
 
     /// Feeds one call and tells the answer due to it. For an act that is the
@@ -88,11 +116,16 @@ impl Ledger {
         }
         self.calls.push(call);
         let mut sets = self.sets[place].clone();
-        if set != *sets[desk] {
+        let grown = set != *sets[desk];
+        if grown {
             self.lones[desk] = Rc::new(self.lone(&set));
             sets[desk] = Rc::new(set);
         }
         self.sets.push(sets);
+        // A take brings its desk nothing that nobody made.
+        if grown && matches!(call, Call::Act(_)) {
+            self.all = Rc::new(self.lone(&self.made()));
+        }
         answer
     }
 
@@ -103,9 +136,7 @@ impl Ledger {
         let mut book = self.start.clone();
         let mut faults = Vec::new();
         for &place in set {
-            let Call::Act(act) = self.calls[place] else {
-                panic!("place {place} of the list is no act");
-            };
+            let act = self.act(place);
             match refusal(&book, &act) {
                 0 => {
                     enter(&mut book, &act);
@@ -127,10 +158,10 @@ impl Ledger {
 /// What part 2 forbids of a pile: a body of its own refused, or a tonnage past
 /// floor or top.
 pub fn unlawful(body: &Body) -> Option<String> {
-    let (floor, now, top) = (body.floor(), body.tonnage(), body.top());
+    let (floor, tonnage, top) = (body.floor(), body.tonnage(), body.top());
     match body.refusal() {
-        0 if floor <= now && now <= top => None,
-        0 => Some(format!("has {now}, not between {floor} and {top},")),
+        0 if floor <= tonnage && tonnage <= top => None,
+        0 => Some(format!("has {tonnage}, not between {floor} and {top},")),
         number => Some(format!("is refused {number}")),
     }
 }

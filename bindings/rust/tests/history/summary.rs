@@ -13,6 +13,13 @@ pub struct Summary {
     pub changing: u64,
     pub states: u64,
     pub distinct: u64,
+    /// Desks' own lines, by moment, desk and pile; those whose desk knows
+    /// another tonnage than all acts made leave; and of these, where that
+    /// tonnage is the line's least, or its most.
+    pub lines: u64,
+    pub unknown: u64,
+    pub at_least: u64,
+    pub at_most: u64,
 }
 
 impl Summary {
@@ -27,10 +34,15 @@ impl Summary {
         self.changing += other.changing;
         self.states += other.states;
         self.distinct += other.distinct;
+        self.lines += other.lines;
+        self.unknown += other.unknown;
+        self.at_least += other.at_least;
+        self.at_most += other.at_most;
     }
 
     /// "Equality of two dead books is therefore no pass." Each kind of step and
-    /// each refusal that amounts up to 1,000 can reach must have come up.
+    /// each refusal that amounts up to 1,000 can reach must have come up, and a
+    /// desk that lacks acts must have stood at both ends of what it is sure of.
     pub fn is_alive(&self) -> bool {
         self.accepted > 0
             && self.changing > 0
@@ -38,6 +50,9 @@ impl Summary {
             && [10, 12, 13, 14]
                 .iter()
                 .all(|number| self.refused.contains_key(number))
+            && self.unknown > 0
+            && self.at_least > 0
+            && self.at_most > 0
     }
 }
 
@@ -54,10 +69,15 @@ impl fmt::Display for Summary {
             "takes {}, that changed something {}",
             self.takes, self.changing
         )?;
-        write!(
+        writeln!(
             f,
             "states compared {}, distinct {}",
             self.states, self.distinct
+        )?;
+        write!(
+            f,
+            "lines {}, known is not by all acts made {}, at the least {}, at the most {}",
+            self.lines, self.unknown, self.at_least, self.at_most
         )
     }
 }

@@ -1,18 +1,22 @@
 //! One history, run on the compiled library and in the ledger side by side. At
-//! each moment the five parts of demand 3 are checked:
+//! each moment the five parts of demand 3 are checked, and what a desk can be
+//! sure of:
 //!
 //! 1. each desk's book is byte for byte the lone dispatcher's for its set;
 //! 2. along that lone run no act is refused, and after each act every pile is
 //!    lawful and between floor and top;
 //! 3. two books of the history are equal exactly when their sets are;
 //! 4. an act's answer is its answer at the lone dispatcher's book;
-//! 5. a take is answered 0.
+//! 5. a take is answered 0;
+//! 6. on each pile, the tonnage by all acts made so far lies between the least
+//!    and the most of each desk, by its own newest book.
 
 use super::act::{Act, Call, Kind};
 use super::book::{Body, Opening};
 use super::ledger::unlawful;
 use super::ledger::{Ledger, Set};
 use super::summary::Summary;
+use super::sure::Sure;
 use pitbook::raw;
 use std::collections::HashMap;
 use std::rc::Rc;
@@ -32,6 +36,7 @@ pub struct Trial {
     /// the first is a function, equal books have equal sets if the second is.
     book_of: HashMap<Rc<Set>, Rc<[u8]>>,
     set_of: HashMap<Rc<[u8]>, Rc<Set>>,
+    sure: Sure,
     summary: Summary,
 }
 
@@ -57,6 +62,7 @@ impl Trial {
         }
         let mut trial = Trial {
             name: name.to_string(),
+            sure: Sure::new(opening.pile_numbers(), desks, &start),
             ledger: Ledger::new(start),
             copies: vec![books.iter().map(|book| Rc::from(&book[..])).collect()],
             books,
@@ -66,10 +72,12 @@ impl Trial {
             summary: Summary::default(),
             opening,
         };
+        let mut broken = Vec::new();
         for desk in 0..desks {
-            let broken = trial.look(desk);
-            assert!(broken.is_empty(), "{}", broken.join("\n"));
+            broken.extend(trial.look(desk));
         }
+        broken.extend(trial.sure.judge(&mut trial.summary));
+        assert!(broken.is_empty(), "{name}: broken\n{}", broken.join("\n"));
         trial
     }
 
@@ -118,6 +126,10 @@ impl Trial {
                 ));
             }
         }
+        let all = self.ledger.lone_of_all();
+        broken.extend(all.faults.iter().map(|fault| format!("part 6: {fault}")));
+        self.sure.count_all(&all.book);
+        broken.extend(self.sure.judge(&mut self.summary));
         assert!(
             broken.is_empty(),
             "{}: broken\n{}",
@@ -128,7 +140,8 @@ impl Trial {
         answer
     }
 
-    /// Parts 1, 2 and 3 for the newest book of one desk.
+    /// Parts 1, 2 and 3 for the newest book of one desk, and its lines for part
+    /// 6.
     fn look(&mut self, desk: usize) -> Vec<String> {
         let moment = self.moment();
         let mut broken = Vec::new();
@@ -155,12 +168,17 @@ impl Trial {
         let due = Body::of(&lone.book, pile)
             .expect("an opened pile")
             .tonnage();
-        let mut now = u32::MAX;
-        let answer = raw::tonnage(book, pile, &mut now);
-        if (answer, i64::from(now)) != (0, due) {
+        let mut tonnes = u32::MAX;
+        let answer = raw::tonnage(book, pile, &mut tonnes);
+        if (answer, i64::from(tonnes)) != (0, due) {
             broken.push(format!(
-                "part 2: tonnage of pile {pile}: {answer}, {now}, due {due}"
+                "part 2: tonnage of pile {pile}: {answer}, {tonnes}, due {due}"
             ));
+        }
+        // The answers hang on the bytes alone: like bytes are asked once.
+        let copies = &self.copies;
+        if moment == 0 || copies[moment][desk] != copies[moment - 1][desk] {
+            broken.extend(self.sure.ask(desk, book, &lone.book));
         }
 
         let bytes = Rc::clone(&self.copies[moment][desk]);
@@ -238,7 +256,7 @@ impl Trial {
 }
 
 /// The act at the library.
-fn enter(book: &mut [u8], act: &Act) -> u8 {
+pub fn enter(book: &mut [u8], act: &Act) -> u8 {
     match act.kind {
         Kind::Tip => raw::tip(book, act.desk, act.pile, act.amount),
         Kind::Draw => raw::draw(book, act.desk, act.pile, act.amount),
