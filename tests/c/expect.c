@@ -70,6 +70,20 @@ uint32_t tip_rights_of(const uint8_t book[WORKED_LENGTH], uint8_t desk)
     return tonnes;
 }
 
+uint32_t least_of(const uint8_t book[WORKED_LENGTH], uint8_t desk)
+{
+    uint32_t tonnes = 0;
+    EXPECT(pit_least(book, WORKED_LENGTH, desk, WORKED_PILE, &tonnes), PIT_DONE);
+    return tonnes;
+}
+
+uint32_t most_of(const uint8_t book[WORKED_LENGTH], uint8_t desk)
+{
+    uint32_t tonnes = 0;
+    EXPECT(pit_most(book, WORKED_LENGTH, desk, WORKED_PILE, &tonnes), PIT_DONE);
+    return tonnes;
+}
+
 void open_two_piles(uint8_t book[TWO_PILES_LENGTH])
 {
     static const uint32_t list[] = {3, 0, 100, 10, 20, 30, 40, 500, 5, 10, 5, 0, 0, 0};

@@ -28,8 +28,10 @@ void make_g(uint8_t book[WORKED_LENGTH]);
 uint32_t tonnage_of(const uint8_t book[WORKED_LENGTH]);
 uint32_t draw_rights_of(const uint8_t book[WORKED_LENGTH], uint8_t desk);
 uint32_t tip_rights_of(const uint8_t book[WORKED_LENGTH], uint8_t desk);
+uint32_t least_of(const uint8_t book[WORKED_LENGTH], uint8_t desk);
+uint32_t most_of(const uint8_t book[WORKED_LENGTH], uint8_t desk);
 
-/* Two desks: pile 3 now 30 of 0 to 100, and pile 500 now 10 of 5 to 10. */
+/* Two desks: pile 3 has 30 of 0 to 100, and pile 500 has 10 of 5 to 10. */
 #define TWO_PILES_LENGTH PIT_BOOK_LENGTH(2, 2)
 
 void open_two_piles(uint8_t book[TWO_PILES_LENGTH]);
@@ -40,6 +42,7 @@ void copies_refused(void);
 void openings_refused(void);
 void acts_refused(void);
 void takes(void);
+void bounds(void);
 void contents_and_bodies(void);
 void records(void);
 void later_rows(void);

@@ -60,6 +60,8 @@ void books_refused(void)
         EXPECT(pit_draw_rights(book, given, 3, 8, &tonnes), answer);
         EXPECT(pit_tip_rights(book, given, 3, 8, &tonnes), answer);
         EXPECT(pit_tonnage(book, given, 8, &tonnes), answer);
+        EXPECT(pit_least(book, given, 3, 8, &tonnes), answer);
+        EXPECT(pit_most(book, given, 3, 8, &tonnes), answer);
         EXPECT(pit_fetch(book, given, 8, record, 0), answer);
         EXPECT(pit_store(book, given, 8, record, 0), answer);
         EXPECT_BYTES(book, before, sizeof book);

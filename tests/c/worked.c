@@ -136,6 +136,7 @@ int main(void)
     openings_refused();
     acts_refused();
     takes();
+    bounds();
     contents_and_bodies();
     records();
     later_rows();
