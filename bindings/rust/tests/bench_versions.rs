@@ -93,6 +93,10 @@ fn compare_all(seen: &mut Seen, k: usize, case: Case) {
     compare("tip rights", &|v, l| {
         (v.tip_rights)(&l.book, desk, pile, &mut l.number)
     });
+    compare("least", &|v, l| {
+        (v.least)(&l.book, desk, pile, &mut l.number)
+    });
+    compare("most", &|v, l| (v.most)(&l.book, desk, pile, &mut l.number));
     compare("fetch", &|v, l| (v.fetch)(&l.book, pile, &mut l.numbers));
     compare("store", &|v, l| (v.store)(&mut l.book, pile, &record));
     compare("open", &|v, l| {
@@ -108,7 +112,7 @@ fn compare_all(seen: &mut Seen, k: usize, case: Case) {
 }
 
 /// Every answer of the table, so that no refusal goes without a comparison.
-const ANSWERS: [(&str, &[u8]); 12] = [
+const ANSWERS: [(&str, &[u8]); 14] = [
     ("check", &[0, 1, 2, 3, 4, 5, 6, 7]),
     ("tip", &[0, 1, 2, 3, 4, 5, 6, 7, 10, 11, 13, 14, 15]),
     ("draw", &[0, 1, 2, 3, 4, 5, 6, 7, 10, 11, 13, 14, 15]),
@@ -129,6 +133,8 @@ const ANSWERS: [(&str, &[u8]); 12] = [
     ("tonnage", &[0, 1, 2, 3, 4, 5, 6, 7, 10]),
     ("draw rights", &[0, 1, 2, 3, 4, 5, 6, 7, 10, 11]),
     ("tip rights", &[0, 1, 2, 3, 4, 5, 6, 7, 10, 11]),
+    ("least", &[0, 1, 2, 3, 4, 5, 6, 7, 10, 11]),
+    ("most", &[0, 1, 2, 3, 4, 5, 6, 7, 10, 11]),
     ("fetch", &[0, 1, 2, 3, 4, 5, 6, 7, 8, 10]),
     ("store", &[0, 1, 2, 3, 4, 5, 6, 7, 10, 30]),
     ("open", &[0, 2, 3, 4, 5, 8]),
@@ -170,10 +176,10 @@ fn worked_book() {
         assert_eq!((v.draw)(&mut g, 1, 7, 4), 0);
         assert_eq!((v.draw)(&mut g, 2, 7, 2), 0);
 
-        let now = |book: &[u8]| {
-            let mut now = 0;
-            assert_eq!((v.tonnage)(book, 7, &mut now), 0);
-            now
+        let known = |book: &[u8]| {
+            let mut known = 0;
+            assert_eq!((v.tonnage)(book, 7, &mut known), 0);
+            known
         };
         let rights = |book: &[u8], desk| {
             let (mut draw, mut tip) = (0, 0);
@@ -181,15 +187,22 @@ fn worked_book() {
             assert_eq!((v.tip_rights)(book, desk, 7, &mut tip), 0);
             (draw, tip)
         };
-        assert_eq!(now(&g), 30);
+        let bounds = |desk| {
+            let (mut least, mut most) = (0, 0);
+            assert_eq!((v.least)(&g, desk, 7, &mut least), 0);
+            assert_eq!((v.most)(&g, desk, 7, &mut most), 0);
+            (least, most)
+        };
+        assert_eq!(known(&g), 30);
         let all = [rights(&g, 0), rights(&g, 1), rights(&g, 2)];
         assert_eq!(all, [(5, 15), (7, 33), (8, 32)]);
+        assert_eq!([0, 1, 2].map(bounds), [(15, 95), (17, 77), (18, 78)]);
 
-        assert_eq!(now(&f), 10, "a");
+        assert_eq!(known(&f), 10, "a");
         assert_eq!((v.draw)(&mut f.clone(), 0, 7, 1), 14, "b");
         let mut c = f.clone();
         assert_eq!((v.tip)(&mut c, 0, 7, 40), 0, "c");
-        assert_eq!((now(&c), rights(&c, 0).1), (50, 0), "c");
+        assert_eq!((known(&c), rights(&c, 0).1), (50, 0), "c");
         assert_eq!((v.tip)(&mut f.clone(), 0, 7, 41), 14, "d");
         let mut e = g.clone();
         assert_eq!((v.give_draw)(&mut e, 0, 7, 1, 5), 0, "e");

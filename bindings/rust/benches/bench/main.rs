@@ -123,6 +123,9 @@ fn cases(pass: &Pass, size: &Size) {
     pass.case("draw rights", size, &newer, false, 0, |v, book, lent| {
         (v.draw_rights)(book, desk, pile, &mut lent.number)
     });
+    pass.case("least", size, &newer, false, 0, |v, book, lent| {
+        (v.least)(book, desk, pile, &mut lent.number)
+    });
 }
 
 fn line(name: &str, length: usize, timings: Timings) {

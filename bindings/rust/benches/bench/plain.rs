@@ -188,15 +188,30 @@ fn rights(body: &[u8], n: usize, desk: usize, side: Side) -> u32 {
     rights as u32
 }
 
-fn query(book: &[u8], desk: u8, pile: u16, side: Side) -> Result<u32, u8> {
+/// The head, and the body of the pile that is asked about for a desk.
+fn asked(book: &[u8], desk: u8, pile: u16) -> Result<(Head, &[u8]), u8> {
     let head = checked(book)?;
-    let desk = usize::from(desk);
-    if desk >= head.desks {
+    if usize::from(desk) >= head.desks {
         return Err(11);
     }
     let position = head.find(book, pile)?;
-    let body = &book[position..position + head.body()];
-    Ok(rights(body, head.desks, desk, side))
+    Ok((head, &book[position..position + head.body()]))
+}
+
+fn query(book: &[u8], desk: u8, pile: u16, side: Side) -> Result<u32, u8> {
+    let (head, body) = asked(book, desk, pile)?;
+    Ok(rights(body, head.desks, usize::from(desk), side))
+}
+
+/// What a desk can be sure of: the least by its draw rights, the most by its
+/// tip rights.
+fn bound(book: &[u8], desk: u8, pile: u16, side: Side) -> Result<u32, u8> {
+    let (head, body) = asked(book, desk, pile)?;
+    let rights = rights(body, head.desks, usize::from(desk), side);
+    Ok(match side {
+        Side::Draw => number(body, 0) + rights,
+        Side::Tip => number(body, 1) - rights,
+    })
 }
 
 /// An act: a give where there is a receiver, otherwise a tip or a draw. It
@@ -421,17 +436,17 @@ pub fn take(own: &mut [u8], copy: &[u8], desk: u8) -> u8 {
 }
 
 pub fn tonnage(book: &[u8], pile: u16, out: &mut u32) -> u8 {
-    let now = checked(book).and_then(|head| {
+    let known = checked(book).and_then(|head| {
         let position = head.find(book, pile)?;
         let body = &book[position..position + head.body()];
         let at = |place| i64::from(number(body, place));
-        let now = (0..head.desks).fold(at(0), |now, desk| {
+        let known = (0..head.desks).fold(at(0), |known, desk| {
             let row = head.row_position(desk) / 4;
-            now + at(2 + desk) + at(row + TIPPED) - at(row + DRAWN)
+            known + at(2 + desk) + at(row + TIPPED) - at(row + DRAWN)
         });
-        Ok(now as u32)
+        Ok(known as u32)
     });
-    answer(now.map(|now| *out = now))
+    answer(known.map(|known| *out = known))
 }
 
 pub fn draw_rights(book: &[u8], desk: u8, pile: u16, out: &mut u32) -> u8 {
@@ -440,6 +455,14 @@ pub fn draw_rights(book: &[u8], desk: u8, pile: u16, out: &mut u32) -> u8 {
 
 pub fn tip_rights(book: &[u8], desk: u8, pile: u16, out: &mut u32) -> u8 {
     answer(query(book, desk, pile, Side::Tip).map(|rights| *out = rights))
+}
+
+pub fn least(book: &[u8], desk: u8, pile: u16, out: &mut u32) -> u8 {
+    answer(bound(book, desk, pile, Side::Draw).map(|least| *out = least))
+}
+
+pub fn most(book: &[u8], desk: u8, pile: u16, out: &mut u32) -> u8 {
+    answer(bound(book, desk, pile, Side::Tip).map(|most| *out = most))
 }
 
 pub fn fetch(book: &[u8], pile: u16, record: &mut [u32]) -> u8 {

@@ -252,19 +252,45 @@ fn rights<const N: usize, const R: usize>(rows: &[[u8; R]], desk: usize, side: S
     rights
 }
 
+/// The rows of the pile that is asked about for a desk, the opening first.
+#[inline(always)]
+fn asked<const N: usize, const R: usize, const B: usize>(
+    book: &[u8],
+    desk: u8,
+    pile: u16,
+) -> Result<&[[u8; R]], u8> {
+    checked::<N, R, B>(book)?;
+    if usize::from(desk) >= N {
+        return Err(11);
+    }
+    Ok(bodies::<B>(book)[find(book, pile)?].as_chunks::<R>().0)
+}
+
 fn query_n<const N: usize, const R: usize, const B: usize>(
     book: &[u8],
     desk: u8,
     pile: u16,
     side: Side,
 ) -> Result<u32, u8> {
-    checked::<N, R, B>(book)?;
-    let desk = usize::from(desk);
-    if desk >= N {
-        return Err(11);
-    }
-    let body = &bodies::<B>(book)[find(book, pile)?];
-    Ok(rights::<N, R>(body.as_chunks::<R>().0, desk, side))
+    let rows = asked::<N, R, B>(book, desk, pile)?;
+    Ok(rights::<N, R>(rows, usize::from(desk), side))
+}
+
+/// What a desk can be sure of: the least by its draw rights, the most by its
+/// tip rights.
+fn bound_n<const N: usize, const R: usize, const B: usize>(
+    book: &[u8],
+    desk: u8,
+    pile: u16,
+    side: Side,
+) -> Result<u32, u8> {
+    let rows = asked::<N, R, B>(book, desk, pile)?;
+    let rights = rights::<N, R>(rows, usize::from(desk), side);
+    let [floor, top] = Row::<N>::read(&rows[0]).pair;
+    Ok(match side {
+        Side::Draw => floor.wrapping_add(rights),
+        Side::Tip => top.wrapping_sub(rights),
+    })
 }
 
 fn act_n<const N: usize, const R: usize, const B: usize>(
@@ -408,13 +434,13 @@ fn tonnage_n<const N: usize, const R: usize, const B: usize>(
     checked::<N, R, B>(book)?;
     let rows = bodies::<B>(book)[find(book, pile)?].as_chunks::<R>().0;
     let opening = Row::<N>::read(&rows[0]);
-    let mut now = opening.pair[0];
+    let mut known = opening.pair[0];
     for desk in 0..N {
         let [tipped, drawn] = Row::<N>::read(&rows[1 + desk]).pair;
-        now = now.wrapping_add(opening.draw[desk]);
-        now = now.wrapping_add(tipped.wrapping_sub(drawn));
+        known = known.wrapping_add(opening.draw[desk]);
+        known = known.wrapping_add(tipped.wrapping_sub(drawn));
     }
-    Ok(now)
+    Ok(known)
 }
 
 fn fetch_n<const N: usize, const R: usize, const B: usize>(
@@ -579,8 +605,8 @@ pub fn take(own: &mut [u8], copy: &[u8], desk: u8) -> u8 {
 }
 
 pub fn tonnage(book: &[u8], pile: u16, out: &mut u32) -> u8 {
-    let now = desks(book).and_then(|desks| for_desks!(desks, tonnage_n(book, pile)));
-    answer(now.map(|now| *out = now))
+    let known = desks(book).and_then(|desks| for_desks!(desks, tonnage_n(book, pile)));
+    answer(known.map(|known| *out = known))
 }
 
 fn query(book: &[u8], desk: u8, pile: u16, side: Side) -> Result<u32, u8> {
@@ -593,6 +619,18 @@ pub fn draw_rights(book: &[u8], desk: u8, pile: u16, out: &mut u32) -> u8 {
 
 pub fn tip_rights(book: &[u8], desk: u8, pile: u16, out: &mut u32) -> u8 {
     answer(query(book, desk, pile, Side::Tip).map(|rights| *out = rights))
+}
+
+fn bound(book: &[u8], desk: u8, pile: u16, side: Side) -> Result<u32, u8> {
+    desks(book).and_then(|desks| for_desks!(desks, bound_n(book, desk, pile, side)))
+}
+
+pub fn least(book: &[u8], desk: u8, pile: u16, out: &mut u32) -> u8 {
+    answer(bound(book, desk, pile, Side::Draw).map(|least| *out = least))
+}
+
+pub fn most(book: &[u8], desk: u8, pile: u16, out: &mut u32) -> u8 {
+    answer(bound(book, desk, pile, Side::Tip).map(|most| *out = most))
 }
 
 pub fn fetch(book: &[u8], pile: u16, record: &mut [u32]) -> u8 {

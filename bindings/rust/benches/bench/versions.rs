@@ -16,6 +16,8 @@ pub struct Version {
     pub tonnage: fn(&[u8], u16, &mut u32) -> u8,
     pub draw_rights: fn(&[u8], u8, u16, &mut u32) -> u8,
     pub tip_rights: fn(&[u8], u8, u16, &mut u32) -> u8,
+    pub least: fn(&[u8], u8, u16, &mut u32) -> u8,
+    pub most: fn(&[u8], u8, u16, &mut u32) -> u8,
     pub fetch: fn(&[u8], u16, &mut [u32]) -> u8,
     pub store: fn(&mut [u8], u16, &[u32]) -> u8,
 }
@@ -34,6 +36,8 @@ macro_rules! version {
             tonnage: $functions::tonnage,
             draw_rights: $functions::draw_rights,
             tip_rights: $functions::tip_rights,
+            least: $functions::least,
+            most: $functions::most,
             fetch: $functions::fetch,
             store: $functions::store,
         }
