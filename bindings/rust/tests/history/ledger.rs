@@ -122,7 +122,7 @@ impl Ledger {
             sets[desk] = Rc::new(set);
         }
         self.sets.push(sets);
-        // A take brings its desk nothing that nobody made.
+        // A take makes no act: what the desks hold together stays.
         if grown && matches!(call, Call::Act(_)) {
             self.all = Rc::new(self.lone(&self.made()));
         }
