@@ -3,9 +3,10 @@
 use Prim.Native.Nat.{ℕ, _<_}
 use native.Mathlib.Omega.{arith}
 use mathlib.Core.Path.{_≡_, ap, sym, _∙_}
-use lib.ListN.{getD}
+use lib.ListN.{getD, replicate}
 use borrow.Author.Tests.{ltb-true}
-use Rattle.rules.specs.Refusals.{value, reply}
+use Rattle.rules.specs.Loops.{list}
+use Rattle.rules.specs.Refusals.{done, value, reply}
 use Rattle.rules.specs.Pile.{Side, rights}
 use Rattle.rules.specs.Layout.{deskLimit}
 use Rattle.rules.specs.Record.{Record, recordView, recordAnswer, padded, recordDeskAnswer, recordTonnageReply, recordRightsReply, recordTonnage, recordRights}
@@ -19,12 +20,21 @@ module _ (r : Record) where
   unfolding recordTonnageReply recordTonnage reply
   all-tonnage e = when-accepted _ _ _ e ∙ ap value (sym (when-accepted _ _ _ e))
 
-  pub all-rights : (s : Side) (i : ℕ) → recordDeskAnswer i r ≡ 0 → recordRightsReply s i r ≡ value (getD (recordRights s r) i 0)
-  unfolding recordRightsReply recordDeskAnswer recordRights reply
-  all-rights s i e =
-      let own : recordAnswer r ≡ 0 = orElse-first _ _ e in
+  -- a list of all desks' numbers has each desk's at its place
+  pub listed-at : (f : ℕ → ℕ) (i : ℕ) → recordAnswer r ≡ 0 → i < r .n
+      → getD (done (recordAnswer r) (list deskLimit (padded (r .n) f)) (replicate deskLimit 0)) i 0 ≡ f i
+  listed-at f i own desk =
+      rw (when-accepted (recordAnswer r) _ _ own)
+      (getD-list deskLimit (padded (r .n) f) 0 i (omega (arith, record-facts r own .desks-most)) ∙ padded-used (r .n) f i desk)
+
+  -- and so has what a query of that desk replies
+  pub reply-listed : (f : ℕ → ℕ) (i : ℕ) → recordDeskAnswer i r ≡ 0
+      → reply (recordDeskAnswer i r) (f i) ≡ value (getD (done (recordAnswer r) (list deskLimit (padded (r .n) f)) (replicate deskLimit 0)) i 0)
+  unfolding recordDeskAnswer reply
+  reply-listed f i e =
       let desk : i < r .n = ltb-true _ _ (when-not-done _ _ (orElse-rest _ _ e)) in
-      let own-rights = rights (r .n) (recordView r) s in
-      when-accepted _ _ _ e
-      ∙ ap value (sym (rw (when-accepted (recordAnswer r) _ _ own)
-      (getD-list deskLimit (padded (r .n) own-rights) 0 i (omega (arith, record-facts r own .desks-most)) ∙ padded-used (r .n) own-rights i desk)))
+      when-accepted _ _ _ e ∙ ap value (sym (listed-at f i (orElse-first _ _ e) desk))
+
+  pub all-rights : (s : Side) (i : ℕ) → recordDeskAnswer i r ≡ 0 → recordRightsReply s i r ≡ value (getD (recordRights s r) i 0)
+  unfolding recordRightsReply recordRights
+  all-rights s i e = reply-listed (rights (r .n) (recordView r) s) i e
