@@ -18,7 +18,7 @@ use Rattle.rules.proofs.Record.RecordOf.{padded-used, padded-unused}
 use Rattle.rules.proofs.Record.Agreeing.{padded-is}
 use Rattle.pile.specs.View.{Audited}
 
-padded-cong : (n j : ℕ) (f g : ℕ → ℕ) → (j < n → f j ≡ g j) → padded n f j ≡ padded n g j
+pub padded-cong : (n j : ℕ) (f g : ℕ → ℕ) → (j < n → f j ≡ g j) → padded n f j ≡ padded n g j
 padded-cong n j f g e = padded-is n g j (padded n f j) (λ l. sym (padded-used n f j l ∙ e l)) (padded-unused n f j)
 
 module _ {r : Record} {answer weight : ℕ} {left : Side → List ℕ} (a : Audited r answer weight left) (z : answer ≡ 0) where

@@ -3,27 +3,22 @@
 -- Assumes nothing.
 use Prim.Native.Nat.{ℕ, _+_, _-_, _≤_, _<_}
 use native.Mathlib.Omega.{arith}
-use mathlib.Core.Path.{_≡_, refl, ap, ap₂, sym, _∙_}
-use mathlib.Core.Logic.{_≢_}
+use mathlib.Core.Path.{_≡_, ap, ap₂, _∙_}
 use mathlib.Core.List.{List}
-use lib.ListN.{getD, replicate}
-use Rattle.rules.specs.Loops.{list}
-use Rattle.rules.specs.Refusals.{refused, value, reply}
-use Rattle.rules.specs.Pile.{Side, draw, tip, Pile, rights, tonnage, topLimit}
-use Rattle.rules.specs.Layout.{deskLimit, desks, piles, pileOf}
-use Rattle.rules.specs.Book.{bookAnswer, place, deskAnswer}
-use Rattle.rules.specs.Record.{Record, recordView, recordAnswer, recordOf, padded, recordDeskAnswer, recordRights, deskRecord}
-use Rattle.rules.specs.Bounds.{least, most, bound, boundReply, recordBoundReply, recordBounds}
-use Rattle.rules.proofs.Loops.Refusals.{when-accepted, when-refused, reply-refused}
+use lib.ListN.{getD}
+use Rattle.rules.specs.Refusals.{value, reply}
+use Rattle.rules.specs.Pile.{Side, draw, tip, Pile, rights, tonnage}
+use Rattle.rules.specs.Layout.{desks, piles, pileOf}
+use Rattle.rules.specs.Book.{bookAnswer}
+use Rattle.rules.specs.Record.{Record, recordView, recordOf, recordDeskAnswer}
+use Rattle.rules.specs.Bounds.{least, most, bound, recordBoundReply, recordBounds}
+use Rattle.rules.proofs.Loops.Refusals.{when-accepted}
 use Rattle.rules.proofs.Loops.Sums.{term-le}
-use Rattle.rules.proofs.Loops.Pieces.{list-cong}
 use Rattle.rules.proofs.Pile.Facts.{PileFacts}
 use Rattle.rules.proofs.Pile.Agree.{Agree, rights-cong}
 use Rattle.rules.proofs.Pile.Tonnage.{tonnage-floor, tonnage-top, tonnage-within}
-use Rattle.rules.proofs.File.Found.{found-readable, found-desk, found-place}
-use Rattle.rules.proofs.Record.Facts.{record-facts}
-use Rattle.rules.proofs.Record.OfBody.{body-agrees, body-desk, found-record}
-use Rattle.rules.proofs.Record.Holdings.{listed-at, reply-listed}
+use Rattle.rules.proofs.Record.OfBody.{body-agrees, body-desk}
+use Rattle.rules.proofs.Record.Holdings.{reply-listed}
 
 -- of a lawful pile
 module _ (n : ℕ) (p : Pile) (f : PileFacts n p) where
@@ -37,7 +32,7 @@ module _ (n : ℕ) (p : Pile) (f : PileFacts n p) where
   bound-within draw i l = (omega arith, rights-room draw i l)
   bound-within tip i l = (omega (arith, rights-room tip i l), omega arith)
 
-  -- what a desk has heard of is no more than what it can be sure of
+  -- the tonnage by the acts that a desk holds is no news to it
   pub least-known : (i : ℕ) → i < n → least n p i ≤ tonnage n p
   unfolding least
   least-known i l = omega (arith, term-le n i (rights n p draw) l, tonnage-floor n p f)

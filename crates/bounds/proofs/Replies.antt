@@ -1,0 +1,74 @@
+-- What a query for a bound replies, from what the query for the rights that keep it told, and from what a book was found to have.
+-- Assumes nothing.
+use Prim.Native.Nat.{ℕ, _+_, _≤_, _<_}
+use native.Mathlib.Decide.{ℕ-discrete}
+use native.Mathlib.Omega.{arith}
+use mathlib.Core.Path.{_≡_, ap, sym, _∙_}
+use mathlib.Core.Logic.{_≢_, by-cases}
+use mathlib.Core.List.{List}
+use borrow.Author.Tests.{ltb-true}
+use Rattle.rules.specs.Refusals.{refused, value, reply}
+use Rattle.rules.specs.Pile.{Side, rights}
+use Rattle.rules.specs.Book.{place, deskAnswer}
+use Rattle.rules.specs.Record.{Record, recordView, recordAnswer, recordDeskAnswer, recordRightsReply, deskRecord}
+use Rattle.rules.specs.Bounds.{bound, boundReply, recordBoundReply}
+use Rattle.rules.proofs.Loops.Refusals.{orElse-first, orElse-rest, when-not-done, when-accepted, reply-refused, reply-value}
+use Rattle.rules.proofs.File.Found.{found-readable, found-desk, found-place}
+use Rattle.rules.proofs.Record.Facts.{record-facts}
+use Rattle.rules.proofs.Record.OfBody.{found-record}
+use Rattle.rules.proofs.Record.Bounds.{rights-room, body-bound}
+use Rattle.bounds.specs.Kept.{kept}
+use Rattle.bounds.proofs.Kept.{kept-bound}
+
+-- a reply tells whether it was refused, and its value
+value-told : {x : ℕ} (a y : ℕ) → value x ≡ reply a y → (a ≡ 0) × (x ≡ y)
+value-told {x} a y told =
+    by-cases (ℕ-discrete a 0) (λ e. let same : value x ≡ value y = told ∙ sym (reply-value a y e) in (e, cc))
+    (λ d. let never : value x ≡ refused a = told ∙ sym (reply-refused a y d) in let z : _≡_ {A = ℕ} 0 1 = cc in absurd (omega arith))
+
+refused-told : {m : ℕ} (a y z : ℕ) → refused m ≡ reply a y → refused m ≡ reply a z
+refused-told {m} a y z told =
+    by-cases (ℕ-discrete a 0)
+    (λ e. let never : refused m ≡ value y = told ∙ sym (reply-value a y e) in let z : _≡_ {A = ℕ} 0 1 = cc in absurd (omega arith))
+    (λ d. told ∙ sym (reply-refused a y d) ∙ reply-refused a z d)
+
+-- of a record
+module _ (r : Record) (s : Side) (i : ℕ) where
+  pub bound-refused : {m : ℕ} → refused m ≡ recordRightsReply s i r → refused m ≡ recordBoundReply s i r
+  unfolding recordRightsReply recordBoundReply
+  bound-refused told = refused-told _ _ _ told
+
+  module _ {x : ℕ} (told : value x ≡ recordRightsReply s i r) where
+    rights-told : (recordDeskAnswer i r ≡ 0) × (x ≡ rights (r .n) (recordView r) s i)
+    unfolding recordRightsReply
+    rights-told = value-told _ _ told
+
+    own : recordAnswer r ≡ 0
+    unfolding recordDeskAnswer
+    own = orElse-first _ _ (rights-told .0)
+
+    desk : i < r .n
+    unfolding recordDeskAnswer
+    desk = ltb-true _ _ (when-not-done _ _ (orElse-rest _ _ (rights-told .0)))
+
+    pub told-room : r .floor + x ≤ r .top
+    told-room = rw (rights-told .1) (rights-room (r .n) (recordView r) (record-facts r own .pile) s i desk)
+
+    pub bound-told : {y : ℕ} → y ≡ kept s (r .floor) (r .top) x → value y ≡ recordBoundReply s i r
+    unfolding recordBoundReply
+    bound-told is =
+        ap value (is ∙ ap (kept s (r .floor) (r .top)) (rights-told .1) ∙ kept-bound (r .n) (recordView r) s i)
+        ∙ reply-value _ _ (rights-told .0)
+
+-- of a book
+module _ (i : ℕ) (b : List ℕ) (number : ℕ) {m : ℕ} (answer : m ≡ deskAnswer i b number) where
+  pub book-refused : m ≢ 0 → (s : Side) → refused m ≡ boundReply s i b number
+  unfolding boundReply
+  book-refused d s = rw (← answer) (reply-refused m _ d)
+
+  pub bound-found : m ≡ 0 → (s : Side) {r : Record} → r ≡ deskRecord i b number → recordBoundReply s i r ≡ boundReply s i b number
+  unfolding boundReply reply
+  bound-found z s is =
+      let found = sym answer ∙ z in
+      rw (is ∙ found-record i b number found) (body-bound b (place b number) (found-readable i b number found) (found-place i b number found) i (found-desk i b number found) s)
+      ∙ sym (when-accepted _ _ _ found)

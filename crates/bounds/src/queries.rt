@@ -1,0 +1,41 @@
+// The bound of one desk, asked of a record and of a book. The side is a parameter: 0 for draw and 1 for tip.
+use crate::bound::bound_of;
+use book::locate;
+use pile::Amount;
+use pile::Pile;
+ghost use mathlib.Core.Path.{_≡_};
+ghost use Rattle.rules.specs.Record.{recordRightsReply};
+ghost use Rattle.rules.specs.Bounds.{boundReply, recordBoundReply};
+ghost use Rattle.pile.specs.View.{asRecord, sideOf};
+ghost use Rattle.pile.specs.Replies.{asReply};
+
+// The rights that keep the bound.
+fn rights_of(pile: Pile, side: u8, desk: u8) -> Amount
+    ensures { λ r. ⌜ asReply r ≡ recordRightsReply (sideOf side) desk (asRecord pile) ⌝ }
+{
+    if side == 0 {
+        return pile.draw_rights(desk);
+    }
+    pile.tip_rights(desk)
+}
+
+pub(crate) fn record_bound(pile: Pile, side: u8, desk: u8) -> Amount
+    ensures { λ r. ⌜ asReply r ≡ recordBoundReply (sideOf side) desk (asRecord pile) ⌝ }
+{
+    match rights_of(pile, side, desk) {
+        Amount::Tonnes(rights) => Amount::Tonnes(bound_of(side, pile.floor, pile.top, rights)),
+        Amount::Refused(answer) => Amount::Refused(answer),
+    }
+}
+
+pub(crate) fn book_bound(book: &[u8], side: u8, desk: u8, number: u16) -> Amount
+    ensures { λ r. ⌜ asReply r ≡ boundReply (sideOf side) desk (now (book .entry)) number ⌝ }
+{
+    let found = locate(book, desk, number);
+    let refusal = found.answer;
+    if refusal != 0 {
+        return Amount::Refused(refusal);
+    }
+    let pile = found.pile;
+    record_bound(pile, side, desk)
+}
