@@ -1,4 +1,4 @@
-// The lines of a listing, as document 01 spells them.
+// The lines of a listing, as document 01 spells them. The tonnage known is that by the acts which the book holds.
 use libc::STDOUT_FILENO;
 
 fn text(s: &[u8]) {
@@ -26,17 +26,19 @@ pub(crate) fn book_line(desks: usize, piles: usize) {
     text(b"\n");
 }
 
-pub(crate) fn pile_line(number: u16, floor: u32, top: u32, tonnage: u32) {
+pub(crate) fn pile_line(number: u16, floor: u32, top: u32, known: u32) {
     field(b"pile ", number as u64);
     field(b" floor ", floor as u64);
     field(b" top ", top as u64);
-    field(b" now ", tonnage as u64);
+    field(b" known ", known as u64);
     text(b"\n");
 }
 
-pub(crate) fn desk_line(desk: usize, draw: u32, tip: u32) {
+pub(crate) fn desk_line(desk: usize, draw: u32, tip: u32, least: u32, most: u32) {
     field(b"desk ", desk as u64);
     field(b" draw ", draw as u64);
     field(b" tip ", tip as u64);
+    field(b" least ", least as u64);
+    field(b" most ", most as u64);
     text(b"\n");
 }

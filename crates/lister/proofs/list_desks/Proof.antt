@@ -1,4 +1,4 @@
--- `list_desks` reads the rights of no more than 8 desks.
+-- `list_desks` reads the rights and bounds of no more than 8 desks.
 -- Assumes nothing.
 use Prim.Native.Nat.{_-_, _≤_}
 use borrow.Author.Needs.{needs}
@@ -6,10 +6,10 @@ use Rattle.lister.proofs.list_desks.Statement.{statement}
 use Rattle.lister.proofs.list_desks.Tie as tie
 
 abbrev Inv-loop : tie.InvT-loop
-Inv-loop n draw tip i₀ i = i ≤ n
+Inv-loop n draw tip least most i₀ i = i ≤ n
 
 abbrev μ-loop : tie.MeasureT-loop
-μ-loop n draw tip i₀ i = n - i
+μ-loop n draw tip least most i₀ i = n - i
 
 loop-holds : tie.Need-loop-holds Inv-loop μ-loop
 loop-holds c = search needs
@@ -25,6 +25,18 @@ mul-desk-line-2 c = search needs
 
 array-read-desk-line-2 : tie.Need-array-read-desk-line-2 Inv-loop μ-loop
 array-read-desk-line-2 c = search needs
+
+mul-desk-line-3 : tie.Need-mul-desk-line-3 Inv-loop μ-loop
+mul-desk-line-3 c = search needs
+
+array-read-desk-line-3 : tie.Need-array-read-desk-line-3 Inv-loop μ-loop
+array-read-desk-line-3 c = search needs
+
+mul-desk-line-4 : tie.Need-mul-desk-line-4 Inv-loop μ-loop
+mul-desk-line-4 c = search needs
+
+array-read-desk-line-4 : tie.Need-array-read-desk-line-4 Inv-loop μ-loop
+array-read-desk-line-4 c = search needs
 
 desk-line-requires : tie.Need-desk-line-requires Inv-loop μ-loop
 desk-line-requires c κs = search needs
@@ -52,6 +64,10 @@ list-desks-spec =
     array-read-desk-line
     mul-desk-line-2
     array-read-desk-line-2
+    mul-desk-line-3
+    array-read-desk-line-3
+    mul-desk-line-4
+    array-read-desk-line-4
     desk-line-requires
     add-i
     loop-less
