@@ -1,13 +1,16 @@
-// What is asked of a pile: rights, tonnage, and where its body lies. The result goes into numbers that the caller lends.
+// What is asked of a pile: rights, tonnage, what a desk can be sure of, and where its body lies. The result goes into numbers that the caller lends.
 use book::body_size;
 use book::draw_rights;
 use book::locate;
 use book::tip_rights;
 use book::tonnage;
+use bounds::least;
+use bounds::most;
 use pile::Amount;
 ghost use mathlib.Core.Path.{_≡_};
 ghost use Rattle.rules.specs.Pile.{draw, tip};
 ghost use Rattle.rules.specs.Book.{fetchAnswer, tonnageReply, rightsReply};
+ghost use Rattle.rules.specs.Bounds.{boundReply};
 ghost use Rattle.pile.specs.Replies.{asReply};
 ghost use Rattle.pitbook.specs.Queries.{answerOf, valueOf, startOr, lengthOr};
 
@@ -50,6 +53,24 @@ pub extern "C" fn pit_tonnage(book: &[u8], pile: u16, out: &mut u32) -> u8
     ensures out { λ _. ⌜ now (out .exit) ≡ valueOf (tonnageReply (now (book .entry)) pile) (now (out .entry)) ⌝ }
 {
     hand_out(tonnage(book, pile), out)
+}
+
+// The least tonnes of a pile that a desk can be sure of, by all acts made; refused with 1 to 7, 11 or 10.
+#[no_mangle]
+pub extern "C" fn pit_least(book: &[u8], desk: u8, pile: u16, out: &mut u32) -> u8
+    ensures answer { λ r. ⌜ r ≡ answerOf (boundReply draw desk (now (book .entry)) pile) ⌝ }
+    ensures out { λ _. ⌜ now (out .exit) ≡ valueOf (boundReply draw desk (now (book .entry)) pile) (now (out .entry)) ⌝ }
+{
+    hand_out(least(book, desk, pile), out)
+}
+
+// The most tonnes of a pile that a desk can be sure of, by all acts made; refused with 1 to 7, 11 or 10.
+#[no_mangle]
+pub extern "C" fn pit_most(book: &[u8], desk: u8, pile: u16, out: &mut u32) -> u8
+    ensures answer { λ r. ⌜ r ≡ answerOf (boundReply tip desk (now (book .entry)) pile) ⌝ }
+    ensures out { λ _. ⌜ now (out .exit) ≡ valueOf (boundReply tip desk (now (book .entry)) pile) (now (out .entry)) ⌝ }
+{
+    hand_out(most(book, desk, pile), out)
 }
 
 // Where the body of a pile starts, its contents position, and its length; refused with 1 to 7 or 10.
