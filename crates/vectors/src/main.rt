@@ -1,6 +1,8 @@
-// The worked book's pile as a record, and then (`file.rt`) its file. The record: F, the acts that make G of it, and what the table refuses on the way
-// and from G. Each line has the act, its answer, and then the tonnage and the draw and tip rights of desks 0, 1 and 2 of the record that came back.
+// The worked book's pile as a record, then (`file.rt`) its file, and (`sure.rt`) what its desks can be sure of. The record: F, the acts that make G of
+// it, and what the table refuses on the way and from G. Each line has the act, its answer, and then the tonnage and the draw and tip rights of desks 0,
+// 1 and 2 of the record that came back.
 mod file;
+mod sure;
 
 use pile::Pile;
 use pile::TALLIES;
@@ -60,7 +62,7 @@ fn unlawful() {
 }
 
 // A record of two desks, with one number of it set: desk 0 has 10 draw rights and desk 1 has 10 tip rights.
-fn with_tally(at: usize, tally: u32) -> Pile
+pub(crate) fn with_tally(at: usize, tally: u32) -> Pile
     requires { ⌜ at < 144 ⌝ }
 {
     let mut tallies = [0u32; TALLIES];
@@ -97,4 +99,5 @@ fn main() {
     unlawful();
     tallied();
     file::run();
+    sure::run(g);
 }
