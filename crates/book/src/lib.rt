@@ -192,7 +192,7 @@ pub fn store(book: &mut [u8], number: u16, pile: Pile) -> u8
     0
 }
 
-// The tonnage of a pile now; refused with 1 to 7 or 10.
+// The tonnage of a pile by the acts that the book holds; refused with 1 to 7 or 10.
 pub fn tonnage(book: &[u8], number: u16) -> Amount
     ensures { λ r. ⌜ asReply r ≡ tonnageReply (now (book .entry)) number ⌝ }
 {

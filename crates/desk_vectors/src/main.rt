@@ -76,7 +76,7 @@ pub(crate) fn alike(label: &[u8], a: &[u8], b: &[u8]) {
 
 // What a book says of a pile: its tonnage, and the draw and tip rights of desks 0 and 1.
 pub(crate) fn pile_of(book: &[u8], number: u16) {
-    text(b" now");
+    text(b" known");
     amount(tonnage(book, number));
     rights(book, 0, number);
     rights(book, 1, number);

@@ -51,7 +51,7 @@ pub enum Amount {
     Refused(u8),
 }
 
-// All that a record's check finds: its own refusal or 0, the tonnage now, and each desk's draw and tip rights. All is 0 past n, and where the record is refused.
+// All that a record's check finds: its own refusal or 0, the tonnage, and each desk's draw and tip rights. All is 0 past n, and where the record is refused.
 pub struct Holdings {
     pub answer: u8,
     pub tonnage: u32,
@@ -125,14 +125,14 @@ impl Pile {
         rights_of(self, 1, desk)
     }
 
-    // The tonnage now; refused with 2, 5, 6 or 7.
+    // The tonnage by the acts that the record holds; refused with 2, 5, 6 or 7.
     pub fn tonnage(self) -> Amount
         ensures { λ r. ⌜ asReply r ≡ recordTonnageReply (asRecord self) ⌝ }
     {
         tonnage_of(self)
     }
 
-    // The tonnage now and the rights of all desks, from one check; refused with 2, 5, 6 or 7.
+    // The tonnage and the rights of all desks, from one check; refused with 2, 5, 6 or 7.
     pub fn holdings(self) -> Holdings
         ensures answer { λ r. ⌜ r .answer ≡ recordAnswer (asRecord self) ⌝ }
         ensures tonnage { λ r. ⌜ r .tonnage ≡ recordTonnage (asRecord self) ⌝ }

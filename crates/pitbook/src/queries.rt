@@ -46,7 +46,7 @@ pub extern "C" fn pit_tip_rights(book: &[u8], desk: u8, pile: u16, out: &mut u32
     hand_out(tip_rights(book, desk, pile), out)
 }
 
-// The tonnage of a pile now; refused with 1 to 7 or 10.
+// The tonnage of a pile by the acts that the book holds; refused with 1 to 7 or 10.
 #[no_mangle]
 pub extern "C" fn pit_tonnage(book: &[u8], pile: u16, out: &mut u32) -> u8
     ensures answer { λ r. ⌜ r ≡ answerOf (tonnageReply (now (book .entry)) pile) ⌝ }

@@ -53,7 +53,7 @@ rights n p s i = credit n p s i - debit n p s i
 unfoldable pub lawful : ℕ → Pile → Bool
 lawful n p = every n (λ i. bothSides (λ s. leb (debit n p s i) (credit n p s i)))
 
--- the tonnage now, Figure 1's value: floor + all draw shares + all tipped - all drawn
+-- document 01's tonnage now, Figure 1's value, by the acts that a book holds: floor + all draw shares + all tipped - all drawn
 unfoldable pub tonnage : ℕ → Pile → ℕ
 tonnage n p = p .floor + sum n (p .share draw) + sum n (p .earned draw) - sum n (p .earned tip)
 

@@ -33,7 +33,7 @@ pub fn line(label: &[u8], e: Outcome) -> Pile
     text(b": ");
     decimal(e.answer as u64);
     let p = e.pile;
-    text(b" now");
+    text(b" known");
     amount(p.tonnage());
     text(b" draw");
     amount(p.draw_rights(0));

@@ -1,5 +1,5 @@
--- Between (1/12): a desk's own row is the same in the book that all acts make, and what it was given there is no less. So its rights there are no less;
--- and the tonnage is the floor and all draw rights, and the top less all tip rights.
+-- Between (1/12): a desk's own row is the same in the book that all acts make, and what it was given there is no less. So its rights there are no less,
+-- its least no lower and its most no higher; and every book's own tonnage is between them.
 -- Assumes nothing.
 use Prim.Native.Nat.{ℕ, _<_}
 use native.Mathlib.Omega.{arith}
@@ -7,17 +7,16 @@ use mathlib.Core.Path.{_≡_, sym, _∙_}
 use mathlib.Core.List.{List}
 use Rattle.history.proofs.Laws.{own, Ends, run, Entered}
 use Rattle.history.proofs.Made.{always}
-use Rattle.rules.specs.Pile.{draw, tip, Pile, rights}
+use Rattle.rules.specs.Pile.{draw, tip, Pile}
 use Rattle.rules.specs.Acts.{Act}
 use Rattle.rules.specs.Layout.{bookLength, bookBytes}
 use Rattle.rules.specs.Opening.{given, givenPile, opened}
 use Rattle.rules.specs.Bounds.{least, most}
 use Rattle.rules.specs.Demand.{book, Between, BookBetween}
-use Rattle.rules.proofs.Loops.Sums.{term-le}
-use Rattle.rules.proofs.Pile.Tonnage.{tonnage-floor, tonnage-top}
 use Rattle.rules.proofs.Pile.Agree.{rights-cong, tonnage-cong}
 use Rattle.rules.proofs.File.LawfulBook.{Frame, written-number, written-pile, Lawful}
 use Rattle.rules.proofs.File.Opened.{accepted-facts, opened-lawful}
+use Rattle.rules.proofs.Record.Bounds.{least-known, known-most}
 use Rattle.rules.proofs.Demand.Grown.{grown}
 use Rattle.rules.proofs.Demand.Runs.{runs}
 use Rattle.rules.proofs.Demand.Monotone.{rights-grow}
@@ -44,8 +43,7 @@ module _ (n p : ℕ) (numbers : ℕ → ℕ) (frame : Frame n p numbers) (start 
             a .floor,
             rights-cong n _ _ a draw d d<n,
             more draw,
-            term-le n d (rights n Q draw) d<n,
-            tonnage-floor n Q (all .1 k l),
+            least-known n Q (all .1 k l) d d<n,
             tonnage-cong n _ _ b,
           ),
           omega (
@@ -53,8 +51,7 @@ module _ (n p : ℕ) (numbers : ℕ → ℕ) (frame : Frame n p numbers) (start 
             a .top,
             rights-cong n _ _ a tip d d<n,
             more tip,
-            term-le n d (rights n Q tip) d<n,
-            tonnage-top n Q (all .1 k l),
+            known-most n Q (all .1 k l) d d<n,
             tonnage-cong n _ _ b,
           ),
         ),
