@@ -32,7 +32,7 @@ module _ (n : ℕ) (p : Pile) (f : PileFacts n p) where
   bound-within draw i l = (omega arith, rights-room draw i l)
   bound-within tip i l = (omega (arith, rights-room tip i l), omega arith)
 
-  -- the tonnage by the acts that a desk holds is no news to it
+  -- the tonnage known, by the acts that the book holds, lies between each desk's least and most
   pub least-known : (i : ℕ) → i < n → least n p i ≤ tonnage n p
   unfolding least
   least-known i l = omega (arith, term-le n i (rights n p draw) l, tonnage-floor n p f)
@@ -54,7 +54,7 @@ body-bound b k readable k<p i desk s =
     when-accepted _ _ _ (body-desk b k readable k<p i desk)
     ∙ ap value (bound-cong (desks b) _ (pileOf b k) (body-agrees b k readable k<p) s i desk)
 
--- all desks' bounds have each desk's at its place
+-- the bounds of all desks have each desk's at its place
 pub all-bounds : (r : Record) (s : Side) (i : ℕ) → recordDeskAnswer i r ≡ 0 → recordBoundReply s i r ≡ value (getD (recordBounds s r) i 0)
 unfolding recordBoundReply recordBounds
 all-bounds r s i e = reply-listed r (bound (r .n) (recordView r) s) i e

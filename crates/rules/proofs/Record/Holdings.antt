@@ -27,7 +27,7 @@ module _ (r : Record) where
       rw (when-accepted (recordAnswer r) _ _ own)
       (getD-list deskLimit (padded (r .n) f) 0 i (omega (arith, record-facts r own .desks-most)) ∙ padded-used (r .n) f i desk)
 
-  -- and so has what a query of that desk replies
+  -- so a query of that desk replies with what stands there
   pub reply-listed : (f : ℕ → ℕ) (i : ℕ) → recordDeskAnswer i r ≡ 0
       → reply (recordDeskAnswer i r) (f i) ≡ value (getD (done (recordAnswer r) (list deskLimit (padded (r .n) f)) (replicate deskLimit 0)) i 0)
   unfolding recordDeskAnswer reply
