@@ -45,7 +45,7 @@ static void cases_on_f(void)
     uint8_t f[WORKED_LENGTH], book[WORKED_LENGTH];
     open_f(f);
     EXPECT(tonnage_of(f), 10);
-    passed("a: F now 10");
+    passed("a: F known 10");
 
     memcpy(book, f, sizeof f);
     EXPECT(pit_draw(book, sizeof book, 0, WORKED_PILE, 1), PIT_RIGHTS_SHORT);
@@ -55,7 +55,7 @@ static void cases_on_f(void)
     EXPECT(pit_tip(book, sizeof book, 0, WORKED_PILE, 40), PIT_DONE);
     EXPECT(tonnage_of(book), 50);
     EXPECT(tip_rights_of(book, 0), 0);
-    passed("c: F, desk 0 tips 40: now 50, tip rights 0");
+    passed("c: F, desk 0 tips 40: known 50, tip rights 0");
 
     memcpy(book, f, sizeof f);
     EXPECT(pit_tip(book, sizeof book, 0, WORKED_PILE, 41), PIT_RIGHTS_SHORT);
