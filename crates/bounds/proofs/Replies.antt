@@ -11,7 +11,7 @@ use Rattle.rules.specs.Refusals.{refused, value, reply}
 use Rattle.rules.specs.Pile.{Side, rights}
 use Rattle.rules.specs.Book.{place, deskAnswer}
 use Rattle.rules.specs.Record.{Record, recordView, recordAnswer, recordDeskAnswer, recordRightsReply, deskRecord}
-use Rattle.rules.specs.Bounds.{bound, boundReply, recordBoundReply}
+use Rattle.rules.specs.Bounds.{boundReply, recordBoundReply}
 use Rattle.rules.proofs.Loops.Refusals.{orElse-first, orElse-rest, when-not-done, when-accepted, reply-refused, reply-value}
 use Rattle.rules.proofs.File.Found.{found-readable, found-desk, found-place}
 use Rattle.rules.proofs.Record.Facts.{record-facts}

@@ -1,4 +1,4 @@
-// What a desk can be sure of: the least and the most tonnes that a pile has by all acts made, heard of or not.
+// What a desk can be sure of: the least and the most tonnes that a pile can have by all acts made, heard of or not.
 mod bound;
 mod queries;
 
@@ -23,14 +23,14 @@ pub struct Bounded {
     pub most: [u32; PLACES],
 }
 
-// The least tonnes that a desk can be sure of, its pile's floor and its draw rights; refused with 2, 5, 6, 7 or 11.
+// The pile has at least so many tonnes, as far as a desk can be sure: floor and its draw rights; refused with 2, 5, 6, 7 or 11.
 pub fn pile_least(pile: Pile, desk: u8) -> Amount
     ensures { λ r. ⌜ asReply r ≡ recordBoundReply draw desk (asRecord pile) ⌝ }
 {
     record_bound(pile, 0, desk)
 }
 
-// The most tonnes that a desk can be sure of, its pile's top less its tip rights; refused with 2, 5, 6, 7 or 11.
+// The pile has at most so many tonnes, as far as a desk can be sure: top less its tip rights; refused with 2, 5, 6, 7 or 11.
 pub fn pile_most(pile: Pile, desk: u8) -> Amount
     ensures { λ r. ⌜ asReply r ≡ recordBoundReply tip desk (asRecord pile) ⌝ }
 {
@@ -63,14 +63,14 @@ pub fn pile_bounds(pile: Pile) -> Bounded
     Bounded { held, least, most }
 }
 
-// The least tonnes of a pile that a desk can be sure of; refused with 1 to 7, 11 or 10.
+// The least that a pile has, as far as a desk can be sure; refused with 1 to 7, 11 or 10.
 pub fn least(book: &[u8], desk: u8, number: u16) -> Amount
     ensures { λ r. ⌜ asReply r ≡ boundReply draw desk (now (book .entry)) number ⌝ }
 {
     book_bound(book, 0, desk, number)
 }
 
-// The most tonnes of a pile that a desk can be sure of; refused with 1 to 7, 11 or 10.
+// The most that a pile has, as far as a desk can be sure; refused with 1 to 7, 11 or 10.
 pub fn most(book: &[u8], desk: u8, number: u16) -> Amount
     ensures { λ r. ⌜ asReply r ≡ boundReply tip desk (now (book .entry)) number ⌝ }
 {

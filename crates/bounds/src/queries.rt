@@ -19,6 +19,7 @@ fn rights_of(pile: Pile, side: u8, desk: u8) -> Amount
     pile.tip_rights(desk)
 }
 
+// Refused as the rights are.
 pub(crate) fn record_bound(pile: Pile, side: u8, desk: u8) -> Amount
     ensures { λ r. ⌜ asReply r ≡ recordBoundReply (sideOf side) desk (asRecord pile) ⌝ }
 {
@@ -28,6 +29,7 @@ pub(crate) fn record_bound(pile: Pile, side: u8, desk: u8) -> Amount
     }
 }
 
+// The record that a desk's call finds replies as the book does.
 pub(crate) fn book_bound(book: &[u8], side: u8, desk: u8, number: u16) -> Amount
     ensures { λ r. ⌜ asReply r ≡ boundReply (sideOf side) desk (now (book .entry)) number ⌝ }
 {

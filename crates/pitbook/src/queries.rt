@@ -55,7 +55,7 @@ pub extern "C" fn pit_tonnage(book: &[u8], pile: u16, out: &mut u32) -> u8
     hand_out(tonnage(book, pile), out)
 }
 
-// The least tonnes of a pile that a desk can be sure of, by all acts made; refused with 1 to 7, 11 or 10.
+// The least that a pile has by all acts made, as far as a desk can be sure; refused with 1 to 7, 11 or 10.
 #[no_mangle]
 pub extern "C" fn pit_least(book: &[u8], desk: u8, pile: u16, out: &mut u32) -> u8
     ensures answer { λ r. ⌜ r ≡ answerOf (boundReply draw desk (now (book .entry)) pile) ⌝ }
@@ -64,7 +64,7 @@ pub extern "C" fn pit_least(book: &[u8], desk: u8, pile: u16, out: &mut u32) -> 
     hand_out(least(book, desk, pile), out)
 }
 
-// The most tonnes of a pile that a desk can be sure of, by all acts made; refused with 1 to 7, 11 or 10.
+// The most that a pile has by all acts made, as far as a desk can be sure; refused with 1 to 7, 11 or 10.
 #[no_mangle]
 pub extern "C" fn pit_most(book: &[u8], desk: u8, pile: u16, out: &mut u32) -> u8
     ensures answer { λ r. ⌜ r ≡ answerOf (boundReply tip desk (now (book .entry)) pile) ⌝ }
