@@ -1,5 +1,5 @@
--- What demand 3 says of books in plain terms, so that a weaker claim would be noticed: at every moment every desk's book has each pile between floor
--- and top, the newest copy of a desk's own book included; and there are such books of 8 desks.
+-- What the claims say of books in plain terms, so that a weaker one would be noticed. Demand 3: at every moment every desk's book has each pile between
+-- floor and top, the newest copy of a desk's own book included; and there are such books of 8 desks. 1/12: no narrower bounds can be told from a book.
 -- Assumes nothing.
 use Prim.Native.Nat.{ℕ, _≤_, _<_}
 use mathlib.Core.Path.{_≡_, refl}
@@ -7,6 +7,7 @@ use mathlib.Core.List.{List, [], _∷_}
 use lib.ListN.{length}
 use Rattle.history.specs.Replica.{Call, take, Valid}
 use Rattle.history.specs.Books.{books}
+use Rattle.history.specs.Made.{global}
 use Rattle.history.specs.Claim.{Demand3}
 use Rattle.history.proofs.Demand.{claim-within}
 use Rattle.history.proofs.Refuted.{own-newest-copy}
@@ -15,9 +16,10 @@ use Rattle.rules.specs.Acts.{Act}
 use Rattle.rules.specs.Layout.{bookLength, desks, piles, pileOf}
 use Rattle.rules.specs.Opening.{openingAnswer, opened}
 use Rattle.rules.specs.Take.{takeAnswer}
-use Rattle.rules.specs.Demand.{book, Within}
+use Rattle.rules.specs.Demand.{book, Within, Possible, tonnageOf, TalliesUpTo}
 use Rattle.rules.proofs.Cases.Table.{open-loops, open-refusals, open-pile, open-layout, open-opening}
 use Rattle.rules.proofs.Demand.BookLaws.{book-demand3}
+use Rattle.rules.proofs.Demand.Reached.{book-reached}
 
 module _ (n p : ℕ) (l : List ℕ) (accepted : openingAnswer n p l (bookLength n p) ≡ 0) (h : List (Call Act)) (valid : Valid n h) where
   abbrev bookOf : ℕ → ℕ → List ℕ
@@ -32,6 +34,19 @@ module _ (n p : ℕ) (l : List ℕ) (accepted : openingAnswer n p l (bookLength 
   -- a desk that takes the copy of its own newest book is not refused
   pub own-copy-taken : (i : ℕ) → i < n → takeAnswer i (bookOf (length h) i) (bookOf (length h) i) ≡ 0
   own-copy-taken i i<n = book-demand3 n p l accepted (take i i (length h) ∷ h) (own-newest-copy book n i h i<n valid) .taken .0
+
+-- Whatever can be told of the tonnage by all acts made from a desk's own newest book, it is true of every possible tonnage.
+module _ (n p : ℕ) (l : List ℕ) (accepted : openingAnswer n p l (bookLength n p) ≡ 0) (d : ℕ) (d<n : d < n) (k : ℕ) where
+  abbrev newest : List (Call Act) → List ℕ
+  newest h = books book (opened n p l) h (length h) d
+
+  pub nothing-narrower : (Told : List ℕ → ℕ → Type 0)
+      → ((h : List (Call Act)) → Valid n h → Told (newest h) (tonnageOf (global book n (opened n p l) h (length h)) k))
+      → (h : List (Call Act)) → Valid n h → TalliesUpTo 990000000 (newest h) → k < piles (newest h)
+      → (x : ℕ) → Possible d (newest h) k x → Told (newest h) x
+  nothing-narrower Told told h valid few k<p x possible =
+      let r = book-reached n p l accepted h valid d d<n few k x k<p possible in
+      rw (r .own-book, r .tonnage-is) at (told (r .calls) (r .valid))
 
 -- a book of 8 desks and one pile of 8 tonnes, each desk with one tip share
 abbrev eight : List ℕ
