@@ -1,5 +1,5 @@
 -- Demand 3 of the book. Grown and Runs: the book after a list of entered acts. Monotone, EqualBooks and BookLaws: its five laws, and so demand 3.
--- Between; Spent and Reached: what a desk's own book tells of all acts made. Consequences: what demand 3 says of every desk's book.
+-- Between; Spent and Reached: what a desk's own book tells of all acts made. Consequences: what the claims say in plain terms.
 pub mod Grown
 pub mod Runs
 pub mod Monotone
