@@ -38,11 +38,18 @@ pub(crate) fn front_length(p: usize) -> usize
     HEAD + p * ENTRY
 }
 
+// The length of a body for 1 to 8 desks, in the order of the site manual's page.
+const BODY_LENGTHS: [u16; 8] = [32, 72, 128, 200, 288, 392, 512, 648];
+
 pub(crate) fn body_length(n: usize) -> usize
     requires { ⌜ n ≤ 8 ⌝ }
     ensures { λ r. ⌜ r ≡ bodyLength n ⌝ }
 {
-    8 * ((n + 1) * (n + 1))
+    // No book has 0 desks. By the rule their body would be a floor and a top.
+    if n < 1 {
+        return 8;
+    }
+    BODY_LENGTHS[n - 1] as usize
 }
 
 // Where body k of a book of n desks and p piles starts; the book ends where a body p would.
