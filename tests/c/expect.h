@@ -44,6 +44,7 @@ void acts_refused(void);
 void takes(void);
 void bounds(void);
 void contents_and_bodies(void);
+void body_lengths(void);
 void records(void);
 void later_rows(void);
 void shortest_and_longest(void);

@@ -25,6 +25,25 @@ void contents_and_bodies(void)
     passed("contents and bodies: 8 and 10, and what is handed out");
 }
 
+/* The site manual's page: how long a body is, for 1 to 8 desks. Head and contents of one pile are 10 bytes. */
+void body_lengths(void)
+{
+    static const size_t page[PIT_DESKS] = {32, 72, 128, 200, 288, 392, 512, 648};
+    const uint32_t list[PIT_LIST_NUMBERS(PIT_DESKS, 1)] = {7};
+    uint8_t book[PIT_BOOK_LENGTH(PIT_DESKS, 1)];
+    for (uint8_t desks = 1; desks <= PIT_DESKS; desks++) {
+        size_t body = page[desks - 1], start = 0, length = 0;
+        EXPECT(PIT_BODY_LENGTH(desks), body);
+        EXPECT(pit_open(desks, 1, list, PIT_LIST_NUMBERS(desks, 1), book, 10 + body - 1), PIT_BUFFER_SHORT);
+        EXPECT(pit_open(desks, 1, list, PIT_LIST_NUMBERS(desks, 1), book, 10 + body), PIT_DONE);
+        EXPECT(pit_check(book, 10 + body), PIT_DONE);
+        EXPECT(pit_body(book, 10 + body, 7, &start, &length), PIT_DONE);
+        EXPECT(start, 10);
+        EXPECT(length, body);
+    }
+    passed("the site manual's body lengths, for 1 to 8 desks");
+}
+
 static void fetched_and_stored(void)
 {
     uint8_t f[WORKED_LENGTH], g[WORKED_LENGTH], book[WORKED_LENGTH];

@@ -138,6 +138,7 @@ int main(void)
     takes();
     bounds();
     contents_and_bodies();
+    body_lengths();
     records();
     later_rows();
     shortest_and_longest();

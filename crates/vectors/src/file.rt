@@ -1,5 +1,6 @@
-// The worked book's file F: opened, read, and with an act on its pile stored. Each line has the call and its answer.
+// The worked book's file F: opened, read, and with an act on its pile stored; then lengths. Each line has the call and its answer.
 use book::body;
+use book::body_size;
 use book::check;
 use book::draw_rights;
 use book::fetch;
@@ -107,8 +108,24 @@ fn least() {
     check_first(b"check 3 of them", &out, 3);
 }
 
+// How long a body is: the site manual's page, of 1 to 8 desks, and what lies outside it.
+fn body_sizes() {
+    answer(b"body of 0 desks", body_size(0) as u64);
+    answer(b"body of 1 desk", body_size(1) as u64);
+    answer(b"body of 2 desks", body_size(2) as u64);
+    answer(b"body of 3 desks", body_size(3) as u64);
+    answer(b"body of 4 desks", body_size(4) as u64);
+    answer(b"body of 5 desks", body_size(5) as u64);
+    answer(b"body of 6 desks", body_size(6) as u64);
+    answer(b"body of 7 desks", body_size(7) as u64);
+    answer(b"body of 8 desks", body_size(8) as u64);
+    answer(b"body of 9 desks", body_size(9) as u64);
+    answer(b"body of 255 desks", body_size(255) as u64);
+}
+
 pub(crate) fn run() {
     worked();
     lengths();
     least();
+    body_sizes();
 }

@@ -1,7 +1,7 @@
 //! What a book hands out: contents, bodies, records, rows.
 
 use crate::{f, g, two_piles};
-use pitbook::{Entry, RECORD_NUMBERS, Record, Refusal, Row, later_row, row_length};
+use pitbook::{Entry, Opening, RECORD_NUMBERS, Record, Refusal, Row, later_row, row_length};
 
 #[test]
 fn contents_and_bodies() {
@@ -16,6 +16,20 @@ fn contents_and_bodies() {
         assert!(std::ptr::eq(book.body(entry.number).unwrap(), part));
     }
     assert_eq!(book.body(4), Err(Refusal::PileAbsent));
+}
+
+/// The site manual's page of body lengths; head and contents of one pile are 10 bytes.
+#[test]
+fn body_lengths() {
+    let page = [32, 72, 128, 200, 288, 392, 512, 648];
+    for (desks, length) in (1..).zip(page) {
+        let none = vec![0; desks];
+        let opening = Opening::new(desks as u8).pile(7, 0, 0, &none, &none);
+        assert_eq!(opening.length(), Some(10 + length), "{desks} desks");
+        let book = opening.to_book().unwrap();
+        assert_eq!(book.as_bytes().len(), 10 + length, "{desks} desks");
+        assert_eq!(book.body(7).unwrap().len(), length, "{desks} desks");
+    }
 }
 
 #[test]
