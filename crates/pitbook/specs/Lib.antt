@@ -1,4 +1,5 @@
 pub mod Queries
 pub mod Contents
 pub mod Numbers
+pub mod Tickets
 pub mod Later

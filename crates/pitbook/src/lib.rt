@@ -7,3 +7,4 @@ mod copies;
 pub mod later;
 pub mod queries;
 pub mod records;
+pub mod tickets;

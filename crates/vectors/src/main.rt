@@ -3,6 +3,7 @@
 // 1 and 2 of the record that came back.
 mod file;
 mod sure;
+mod tickets;
 
 use pile::Pile;
 use pile::TALLIES;
@@ -100,4 +101,5 @@ fn main() {
     tallied();
     file::run();
     sure::run(g);
+    tickets::run();
 }
