@@ -29,7 +29,7 @@ enum pit_refusal {
     PIT_DONE = 0,                /* no refusal */
     PIT_BOOK_SHORT = 1,          /* fewer than 4 bytes */
     PIT_HEAD_WRONG = 2,          /* head wrong; number of desks or piles out of range */
-    PIT_LENGTH_WRONG = 3,        /* length not as the head, the sizes or the record want it */
+    PIT_LENGTH_WRONG = 3,        /* length not as the head, the sizes, the record or the ticket want it */
     PIT_CONTENTS_WRONG = 4,      /* pile number or position wrong, or numbers not rising */
     PIT_OPENING_UNLAWFUL = 5,    /* opening unlawful, or an unused share not 0 */
     PIT_TALLY_WRONG = 6,         /* tally over its limit, a give to oneself, or an unused place not 0 */
@@ -38,7 +38,7 @@ enum pit_refusal {
     PIT_PILE_ABSENT = 10,        /* no such pile in the book */
     PIT_DESK_ABSENT = 11,        /* no such desk in the book */
     PIT_RECEIVER_WRONG = 12,     /* no such receiver, or the giver itself */
-    PIT_AMOUNT_WRONG = 13,       /* amount 0 or over PIT_AMOUNT_LIMIT */
+    PIT_AMOUNT_WRONG = 13,       /* amount, or a ticket's tonnes, 0 or over PIT_AMOUNT_LIMIT */
     PIT_RIGHTS_SHORT = 14,       /* the desk holds less rights than the amount */
     PIT_LIMIT_REACHED = 15,      /* the tally would pass PIT_TALLY_LIMIT */
     PIT_COPY_SHORT = 21,         /* 21 to 27: what 1 to 7 say of a book, of the copy */
@@ -50,7 +50,10 @@ enum pit_refusal {
     PIT_COPY_RIGHTS_NEGATIVE = 27,
     PIT_OPENING_DIFFERS = 30,    /* number of desks, pile numbers or an opening differ */
     PIT_ROWS_SPLIT = 31,         /* two rows of one desk differ and neither is later: it acted twice from one old book */
-    PIT_OWN_ROW_BEHIND = 32      /* the copy has a later row of the taker's own desk */
+    PIT_OWN_ROW_BEHIND = 32,     /* the copy has a later row of the taker's own desk */
+    PIT_DIGITS_WRONG = 33,       /* a packed digit above 9; in writing, a ticket's number over PIT_TICKET_NUMBER_LIMIT */
+    PIT_TICKET_PILE_WRONG = 34,  /* a ticket's pile 0 or over 65,535 */
+    PIT_KIND_OR_DESK_WRONG = 35  /* a ticket's kind not PIT_TICKET_TIP or PIT_TICKET_DRAW, or its desk above 7 */
 };
 
 /* What pit_later answers. */
@@ -58,6 +61,12 @@ enum pit_handed_on {
     PIT_NEITHER_ROW = 0,
     PIT_FIRST_ROW = 1,
     PIT_SECOND_ROW = 2
+};
+
+/* A ticket's kind. */
+enum pit_ticket_kind {
+    PIT_TICKET_TIP = 1,
+    PIT_TICKET_DRAW = 2
 };
 
 /* Limits: desks and piles of a book, tonnes of an act, tonnes of a tally, tonnes of a top. */
@@ -72,6 +81,10 @@ enum pit_handed_on {
 #define PIT_BODY_LENGTH(desks) (PIT_ROW_LENGTH(desks) * ((size_t)(desks) + 1))
 #define PIT_BOOK_LENGTH(desks, piles) ((size_t)4 + (size_t)(piles) * (6 + PIT_BODY_LENGTH(desks)))
 #define PIT_BOOK_LONGEST 20932
+
+/* Bytes of a weighbridge ticket, and the highest number of one. */
+#define PIT_TICKET_LENGTH 11
+#define PIT_TICKET_NUMBER_LIMIT 99999999
 
 /* Numbers of the list that opens a book. */
 #define PIT_LIST_NUMBERS(desks, piles) ((size_t)(piles) * (3 + (size_t)2 * (size_t)(desks)))
@@ -176,6 +189,23 @@ uint8_t pit_store(uint8_t *book, size_t book_length, uint16_t pile, const uint32
  * where they are split, differ in length, or have a length other than PIT_ROW_LENGTH of 1 to 8 desks. This is no refusal's number.
  */
 uint8_t pit_later(const uint8_t *first, size_t first_length, const uint8_t *second, size_t second_length);
+
+/*
+ * Reads a weighbridge ticket of PIT_TICKET_LENGTH bytes: its number in 4, its pile in 3 and its tonnes in 2, all packed decimal (two
+ * digits a byte, the high one first), then its kind and its desk in a byte each.
+ * Answers 3 for the length, then field by field, each field's digits before its value: 33 for a digit above 9, 34 for the pile, 13
+ * for the tonnes, 35 for kind or desk; or 0. What is lent for the fields stays where it is not 0.
+ */
+uint8_t pit_read_ticket(const uint8_t *bytes, size_t length, uint32_t *number, uint32_t *pile, uint32_t *tonnes, uint8_t *kind,
+                        uint8_t *desk);
+
+/*
+ * Writes a weighbridge ticket to the start of out; bytes past it stay. What is written is read again as it was, and what was read is
+ * written as the same bytes.
+ * Answers 33 for a number over PIT_TICKET_NUMBER_LIMIT, 34 for the pile, 13 for the tonnes, 35 for kind or desk, 8 where out is
+ * shorter than PIT_TICKET_LENGTH, or 0.
+ */
+uint8_t pit_write_ticket(uint32_t number, uint32_t pile, uint32_t tonnes, uint8_t kind, uint8_t desk, uint8_t *out, size_t out_length);
 
 #ifdef __cplusplus
 }

@@ -47,6 +47,7 @@ void contents_and_bodies(void);
 void body_lengths(void);
 void records(void);
 void later_rows(void);
+void tickets(void);
 void shortest_and_longest(void);
 
 #endif

@@ -141,6 +141,7 @@ int main(void)
     body_lengths();
     records();
     later_rows();
+    tickets();
     shortest_and_longest();
     return 0;
 }

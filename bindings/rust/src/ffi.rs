@@ -127,4 +127,24 @@ unsafe extern "C" {
         second: *const u8,
         second_length: usize,
     ) -> u8;
+
+    pub(crate) fn pit_read_ticket(
+        bytes: *const u8,
+        length: usize,
+        number: *mut u32,
+        pile: *mut u32,
+        tonnes: *mut u32,
+        kind: *mut u8,
+        desk: *mut u8,
+    ) -> u8;
+
+    pub(crate) fn pit_write_ticket(
+        number: u32,
+        pile: u32,
+        tonnes: u32,
+        kind: u8,
+        desk: u8,
+        out: *mut u8,
+        out_length: usize,
+    ) -> u8;
 }

@@ -5,7 +5,7 @@
 //! only rights that it holds: draw rights guard the floor, tip rights the top.
 //!
 //! [`Opening`] makes a book, [`Book`] is one over a caller's bytes, with its queries, the four acts and the take, [`Record`] is a pile of it
-//! by value, and [`Refusal`] says why a call was refused. [`raw`] has the functions of the static library, which is proved to answer as
+//! by value, [`Ticket`] is a load's record from the weighbridge, and [`Refusal`] says why a call was refused. [`raw`] has the functions of the static library, which is proved to answer as
 //! document 01 has it.
 //!
 //! ```
@@ -43,6 +43,7 @@ pub mod raw;
 mod record;
 mod refusal;
 mod rows;
+mod ticket;
 
 pub use book::Book;
 pub use entry::Entry;
@@ -54,3 +55,4 @@ pub use opening::Opening;
 pub use record::{Record, Row};
 pub use refusal::Refusal;
 pub use rows::later_row;
+pub use ticket::Ticket;

@@ -161,3 +161,44 @@ pub fn later(a: &[u8], b: &[u8]) -> u8 {
     // SAFETY: the references lend all that the call reads and writes; see the top.
     unsafe { ffi::pit_later(a.as_ptr(), a.len(), b.as_ptr(), b.len()) }
 }
+
+/// Reads a weighbridge ticket of 11 bytes. Refused with 3, then field by field, digits before values, with 33, 34, 13 or 35, and then
+/// all five numbers stay.
+pub fn read_ticket(
+    bytes: &[u8],
+    number: &mut u32,
+    pile: &mut u32,
+    tonnes: &mut u32,
+    kind: &mut u8,
+    desk: &mut u8,
+) -> u8 {
+    // SAFETY: the references lend all that the call reads and writes; see the top.
+    unsafe {
+        ffi::pit_read_ticket(
+            bytes.as_ptr(),
+            bytes.len(),
+            number,
+            pile,
+            tonnes,
+            kind,
+            desk,
+        )
+    }
+}
+
+/// Writes a weighbridge ticket to the start of `out`. Refused with 33, 34, 13 or 35, then 8 where `out` is shorter than 11 bytes.
+/// Bytes past the ticket stay.
+pub fn write_ticket(number: u32, pile: u32, tonnes: u32, kind: u8, desk: u8, out: &mut [u8]) -> u8 {
+    // SAFETY: the references lend all that the call reads and writes; see the top.
+    unsafe {
+        ffi::pit_write_ticket(
+            number,
+            pile,
+            tonnes,
+            kind,
+            desk,
+            out.as_mut_ptr(),
+            out.len(),
+        )
+    }
+}

@@ -49,7 +49,7 @@ macro_rules! refusals {
 refusals! {
     BookShort = 1, "book short", "The book has fewer than 4 bytes.";
     HeadWrong = 2, "head wrong", "The book's head is wrong; of an opening or a record, the number of desks or piles is out of range.";
-    LengthWrong = 3, "length wrong", "The book's length is not as its head says; of an opening, a pile has not one share of each kind for each desk.";
+    LengthWrong = 3, "length wrong", "The book's length is not as its head says; of an opening, a pile has not one share of each kind for each desk; a ticket has not 11 bytes.";
     ContentsWrong = 4, "contents wrong", "A pile number or position is wrong: numbers are 1 to 65,535 and rise strictly.";
     OpeningUnlawful = 5, "opening unlawful", "An opening is unlawful: floor ≤ top ≤ 10,000,000, and all shares add up to top − floor; those of a record past its desks are 0.";
     TallyWrong = 6, "tally wrong", "A tally is over its limit, or a desk gives to itself; of a record, a tally past its desks is not 0.";
@@ -58,7 +58,7 @@ refusals! {
     PileAbsent = 10, "pile absent", "The book has no such pile.";
     DeskAbsent = 11, "desk absent", "The book has no such desk.";
     ReceiverWrong = 12, "receiver wrong", "The book has no such receiver, or it is the giver itself.";
-    AmountWrong = 13, "amount wrong", "The amount is 0 or over 1,000.";
+    AmountWrong = 13, "amount wrong", "The amount, or a ticket's tonnes, is 0 or over 1,000.";
     RightsShort = 14, "rights short", "The desk holds less rights of that kind than the amount.";
     LimitReached = 15, "limit reached", "The tally would pass its limit.";
     CopyShort = 21, "the copy: book short", "The copy has fewer than 4 bytes.";
@@ -71,6 +71,9 @@ refusals! {
     OpeningDiffers = 30, "opening differs", "The number of desks, the pile numbers or an opening differ from the book's.";
     RowsSplit = 31, "rows split", "Two rows of one desk differ and neither is later: the desk acted twice from one old book.";
     OwnRowBehind = 32, "own row behind", "The copy has a later row of the taker's own desk: this book is not the desk's newest.";
+    DigitsWrong = 33, "digits wrong", "A ticket has a packed digit above 9; in writing, its number is over 99,999,999.";
+    TicketPileWrong = 34, "ticket's pile wrong", "A ticket's pile is 0 or over 65,535.";
+    KindOrDeskWrong = 35, "kind or desk wrong", "A ticket's kind is not 1, tip, or 2, draw, or its desk is above 7.";
 }
 
 impl Refusal {

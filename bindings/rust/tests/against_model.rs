@@ -17,11 +17,11 @@ use support::places::{LIBRARY, MODEL, PLACES};
 use support::{case, from_environment, judge, say, seed};
 
 /// Calls compared in all, if PITBOOK_CASES is not set.
-const CASES: u64 = 510_000;
+const CASES: u64 = 570_000;
 
-/// Document 01, "Refusals by place": the numbers that can come from a place,
-/// 0 (done) first. Each must be reached.
-const EXPECTED: [(&str, &[u8]); 19] = [
+/// Document 01, "Refusals by place", and 3/12: the numbers that can come from a
+/// place, 0 (done) first. Each must be reached.
+const EXPECTED: [(&str, &[u8]); 21] = [
     // "Opening: 2, 3, 4, 5, by pile. 8"
     ("open", &[0, 2, 3, 4, 5, 8]),
     // "Book bytes: 1 to 4", "Each body, in file order: 5 to 7"
@@ -68,6 +68,10 @@ const EXPECTED: [(&str, &[u8]); 19] = [
     ("later, rows", &[0, 1, 2]),
     // "differ in length or have a length other than 8(n + 1)"
     ("later, other lengths", &[0]),
+    // 3/12: "Checked in field order after length, which is refusal 3"
+    ("read_ticket", &[0, 3, 33, 34, 13, 35]),
+    // "Writing meets 8 last"
+    ("write_ticket", &[0, 33, 34, 13, 35, 8]),
 ];
 
 /// How often each number was answered, by name of EXPECTED.
@@ -90,6 +94,11 @@ fn counted_as(case: &Case) -> &'static str {
     }
 }
 
+/// Rows and tickets are no books.
+fn has_a_book(place: Place) -> bool {
+    !matches!(place, Place::Later | Place::ReadTicket | Place::WriteTicket)
+}
+
 /// Compares this place's part of all cases.
 fn compare(place: Place) {
     let seed = seed();
@@ -104,13 +113,13 @@ fn compare(place: Place) {
         judge(&case, seed, number, &expected, &found);
         let answers = reached.entry(counted_as(&case)).or_default();
         *answers.entry(found.answer).or_default() += 1;
-        if place.is_done(found.answer) {
+        if has_a_book(place) && found.answer == 0 {
             desks_seen[usize::from(found.lent.book[1])] += 1;
             piles_seen[usize::from(found.lent.book[2])] += 1;
         }
     }
     report(place, seed, count, &reached);
-    if place != Place::Later {
+    if has_a_book(place) {
         // Where there is one desk alone, a give is never done.
         let gives = matches!(place, Place::GiveDraw | Place::GiveTip);
         let fewest = if gives { 2 } else { 1 };
@@ -237,4 +246,14 @@ fn store() {
 #[test]
 fn later() {
     compare(Place::Later);
+}
+
+#[test]
+fn read_ticket() {
+    compare(Place::ReadTicket);
+}
+
+#[test]
+fn write_ticket() {
+    compare(Place::WriteTicket);
 }

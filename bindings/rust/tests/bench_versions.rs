@@ -23,10 +23,14 @@ struct Lent {
     book: Vec<u8>,
     number: u32,
     numbers: Vec<u32>,
+    ticket: ([u32; 3], [u8; 2]),
 }
 
+/// What is lent for a ticket's fields, which no ticket has.
+const NO_TICKET: ([u32; 3], [u8; 2]) = ([u32::MAX; 3], [u8::MAX; 2]);
+
 /// The answers seen, by function.
-type Seen = BTreeMap<&'static str, [u32; 33]>;
+type Seen = BTreeMap<&'static str, [u32; 36]>;
 
 /// Makes the call with each version and compares.
 fn compare(
@@ -49,7 +53,7 @@ fn compare(
         equal,
         "{function}, case {case}: {answers:?} or what was lent"
     );
-    seen.entry(function).or_insert([0; 33])[usize::from(plain.0)] += 1;
+    seen.entry(function).or_insert([0; 36])[usize::from(plain.0)] += 1;
 }
 
 fn compare_all(seen: &mut Seen, k: usize, case: Case) {
@@ -71,6 +75,7 @@ fn compare_all(seen: &mut Seen, k: usize, case: Case) {
         book,
         number: 0xaaaa_aaaa,
         numbers: vec![0xaaaa_aaaa; lent_numbers],
+        ticket: NO_TICKET,
     };
     let mut compare = |function, call: &dyn Fn(&Version, &mut Lent) -> u8| {
         compare(seen, k, function, &lent, call);
@@ -111,8 +116,58 @@ fn compare_all(seen: &mut Seen, k: usize, case: Case) {
     });
 }
 
+/// Packed bytes with right digits.
+fn digits(random: &mut Random, bytes: usize) -> Vec<u8> {
+    (0..bytes)
+        .map(|_| (random.below(10) << 4 | random.below(10)) as u8)
+        .collect()
+}
+
+/// A number most often from 1 to the limit.
+fn near(random: &mut Random, limit: usize) -> u32 {
+    match random.below(16) {
+        0 => 0,
+        1 => limit as u32 + 1,
+        2 => random.below(1 << 32) as u32,
+        _ => 1 + random.below(limit) as u32,
+    }
+}
+
+/// Bytes that are most often a ticket but for one of them, to be read; then a
+/// ticket of numbers near the limits, written over those bytes.
+fn compare_tickets(seen: &mut Seen, k: usize, random: &mut Random) {
+    let mut bytes = digits(random, 4);
+    bytes.push(0);
+    bytes.extend(digits(random, 2));
+    bytes.push(0);
+    bytes.extend(digits(random, 1));
+    bytes.extend([1 + random.below(2) as u8, random.below(8) as u8]);
+    match random.below(8) {
+        0 => bytes.truncate(random.below(11)),
+        1 => bytes.push(0),
+        2..=4 => bytes[random.below(11)] = random.below(256) as u8,
+        _ => {}
+    }
+    let lent = Lent {
+        book: bytes,
+        number: 0,
+        numbers: Vec::new(),
+        ticket: NO_TICKET,
+    };
+    compare(seen, k, "ticket read", &lent, |v, l| {
+        let ([number, pile, tonnes], [kind, desk]) = &mut l.ticket;
+        (v.read_ticket)(&l.book, number, pile, tonnes, kind, desk)
+    });
+    let number = near(random, 99_999_999);
+    let (pile, tonnes) = (near(random, 65_535), near(random, 1_000));
+    let (kind, desk) = (near(random, 2) as u8, near(random, 7) as u8);
+    compare(seen, k, "ticket written", &lent, |v, l| {
+        (v.write_ticket)(number, pile, tonnes, kind, desk, &mut l.book)
+    });
+}
+
 /// Every answer of the table, so that no refusal goes without a comparison.
-const ANSWERS: [(&str, &[u8]); 14] = [
+const ANSWERS: [(&str, &[u8]); 16] = [
     ("check", &[0, 1, 2, 3, 4, 5, 6, 7]),
     ("tip", &[0, 1, 2, 3, 4, 5, 6, 7, 10, 11, 13, 14, 15]),
     ("draw", &[0, 1, 2, 3, 4, 5, 6, 7, 10, 11, 13, 14, 15]),
@@ -138,6 +193,8 @@ const ANSWERS: [(&str, &[u8]); 14] = [
     ("fetch", &[0, 1, 2, 3, 4, 5, 6, 7, 8, 10]),
     ("store", &[0, 1, 2, 3, 4, 5, 6, 7, 10, 30]),
     ("open", &[0, 2, 3, 4, 5, 8]),
+    ("ticket read", &[0, 3, 13, 33, 34, 35]),
+    ("ticket written", &[0, 8, 13, 33, 34, 35]),
 ];
 
 #[test]
@@ -147,10 +204,11 @@ fn all_agree_on_random_books() {
     let mut seen = Seen::new();
     for k in 0..CASES {
         compare_all(&mut seen, k, Case::new(&mut random));
+        compare_tickets(&mut seen, k, &mut random);
     }
     for (function, answers) in ANSWERS {
         let counts = seen[function];
-        let given: Vec<_> = (0..33).filter(|&a| counts[a] > 0).collect();
+        let given: Vec<_> = (0..36).filter(|&a| counts[a] > 0).collect();
         println!(
             "{function}: {:?}",
             given.iter().map(|&a| (a, counts[a])).collect::<Vec<_>>()

@@ -17,6 +17,8 @@ const MOST_BUFFERS: usize = 256;
 pub struct Lent {
     pub number: u32,
     pub record: [u32; 163],
+    /// A ticket's number, pile and tonnes; its kind and desk.
+    pub ticket: ([u32; 3], [u8; 2]),
 }
 
 /// Nanoseconds a call.

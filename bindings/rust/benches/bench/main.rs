@@ -35,8 +35,7 @@ enum Pass {
 }
 
 impl Pass {
-    /// A case: its name, its book, whether it changes the book, the answer it
-    /// has to give, and the call.
+    /// A case on a book of a size.
     fn case(
         &self,
         name: &str,
@@ -47,16 +46,30 @@ impl Pass {
         call: impl Fn(&Version, &mut [u8], &mut Lent) -> u8,
     ) {
         let name = format!("{name}, {} × {}", size.desks, size.piles);
+        self.named(&name, book, changes, answer, call);
+    }
+
+    /// A case: its name, its book or ticket, whether it changes those bytes,
+    /// the answer it has to give, and the call.
+    fn named(
+        &self,
+        name: &str,
+        book: &[u8],
+        changes: bool,
+        answer: u8,
+        call: impl Fn(&Version, &mut [u8], &mut Lent) -> u8,
+    ) {
         // Nothing that a call should write is there already.
         let lent = Lent {
             number: u32::MAX,
             record: [u32::MAX; 163],
+            ticket: ([u32::MAX; 3], [u8::MAX; 2]),
         };
         match self {
-            Pass::Agree => agree(&name, book, lent, changes, answer, call),
+            Pass::Agree => agree(name, book, lent, changes, answer, call),
             Pass::Time { filter } if name.replace(" × ", "x").contains(filter) => {
                 let timings = Clock::new(book, lent, changes, call).time();
-                line(&name, book.len(), timings);
+                line(name, book.len(), timings);
             }
             Pass::Time { .. } => {}
         }
@@ -128,6 +141,24 @@ fn cases(pass: &Pass, size: &Size) {
     });
 }
 
+/// A ticket of 11 bytes, which says the same at every size.
+fn tickets(pass: &Pass) {
+    const BYTES: [u8; 11] = [
+        0x12, 0x34, 0x56, 0x78, 0x00, 0x43, 0x21, 0x09, 0x87, 0x01, 0x05,
+    ];
+    let mut wrong = BYTES;
+    wrong[10] = 8;
+    let read = |v: &Version, bytes: &mut [u8], lent: &mut Lent| {
+        let ([number, pile, tonnes], [kind, desk]) = &mut lent.ticket;
+        (v.read_ticket)(bytes, number, pile, tonnes, kind, desk)
+    };
+    pass.named("ticket read", &BYTES, false, 0, read);
+    pass.named("ticket refused", &wrong, false, 35, read);
+    pass.named("ticket written", &[0; 11], true, 0, |v, out, _| {
+        (v.write_ticket)(12_345_678, 4_321, 987, 1, 5, out)
+    });
+}
+
 fn line(name: &str, length: usize, timings: Timings) {
     let cell = |timing: &Timing| {
         let spread = format!("({:.0} %)", 100.0 * timing.spread);
@@ -148,6 +179,7 @@ fn main() {
     for size in &SIZES {
         cases(&Pass::Agree, size);
     }
+    tickets(&Pass::Agree);
     println!("All three versions agree on the prepared inputs.\n");
     if cfg!(debug_assertions) {
         println!("Not timed: this is not a release build.");
@@ -160,10 +192,11 @@ fn main() {
         filter: filter.unwrap_or_default(),
     };
     println!("Nanoseconds a call, by desks × piles: median (interquartile range).");
-    println!("Ratios are medians over rounds; a byte is one of the book.\n");
+    println!("Ratios are medians over rounds; a byte is one of the book or the ticket.\n");
     println!("| call | ours | plain | specialised | ours/plain | ours/specialised | ns a byte |");
     println!("|---|--:|--:|--:|--:|--:|--:|");
     for size in &SIZES {
         cases(&pass, size);
     }
+    tickets(&pass);
 }

@@ -472,3 +472,93 @@ pub fn fetch(book: &[u8], pile: u16, record: &mut [u32]) -> u8 {
 pub fn store(book: &mut [u8], pile: u16, record: &[u32]) -> u8 {
     answer(stored(book, pile, record))
 }
+
+const TICKET: usize = 11;
+const MOST_TICKET_NUMBER: u32 = 99_999_999;
+
+/// The number of packed bytes, two digits each, the high one first; `None`
+/// where a digit is above 9.
+fn unpacked(bytes: &[u8]) -> Option<u32> {
+    let mut number = 0;
+    for byte in bytes {
+        let (high, low) = (byte >> 4, byte & 15);
+        if high > 9 || low > 9 {
+            return None;
+        }
+        number = 100 * number + u32::from(10 * high + low);
+    }
+    Some(number)
+}
+
+fn pack(mut number: u32, out: &mut [u8]) {
+    for byte in out.iter_mut().rev() {
+        let pair = (number % 100) as u8;
+        *byte = pair / 10 << 4 | pair % 10;
+        number /= 100;
+    }
+}
+
+fn pile_wrong(pile: u32) -> bool {
+    !(1..=65_535).contains(&pile)
+}
+
+fn kind_or_desk_wrong(kind: u8, desk: u8) -> bool {
+    !(1..=2).contains(&kind) || usize::from(desk) >= MOST_DESKS
+}
+
+pub fn read_ticket(
+    bytes: &[u8],
+    number: &mut u32,
+    pile: &mut u32,
+    tonnes: &mut u32,
+    kind: &mut u8,
+    desk: &mut u8,
+) -> u8 {
+    let Ok(&[a, b, c, d, e, f, g, h, i, k, l]) = <&[u8; TICKET]>::try_from(bytes) else {
+        return 3;
+    };
+    let Some(the_number) = unpacked(&[a, b, c, d]) else {
+        return 33;
+    };
+    let Some(the_pile) = unpacked(&[e, f, g]) else {
+        return 33;
+    };
+    if pile_wrong(the_pile) {
+        return 34;
+    }
+    let Some(the_tonnes) = unpacked(&[h, i]) else {
+        return 33;
+    };
+    if !(1..=MOST_AMOUNT).contains(&the_tonnes) {
+        return 13;
+    }
+    if kind_or_desk_wrong(k, l) {
+        return 35;
+    }
+    (*number, *pile, *tonnes) = (the_number, the_pile, the_tonnes);
+    (*kind, *desk) = (k, l);
+    0
+}
+
+pub fn write_ticket(number: u32, pile: u32, tonnes: u32, kind: u8, desk: u8, out: &mut [u8]) -> u8 {
+    if number > MOST_TICKET_NUMBER {
+        return 33;
+    }
+    if pile_wrong(pile) {
+        return 34;
+    }
+    if !(1..=MOST_AMOUNT).contains(&tonnes) {
+        return 13;
+    }
+    if kind_or_desk_wrong(kind, desk) {
+        return 35;
+    }
+    let Some(out) = out.get_mut(..TICKET) else {
+        return 8;
+    };
+    pack(number, &mut out[..4]);
+    pack(pile, &mut out[4..7]);
+    pack(tonnes, &mut out[7..9]);
+    (out[9], out[10]) = (kind, desk);
+    0
+}

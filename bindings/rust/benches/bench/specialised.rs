@@ -641,3 +641,90 @@ pub fn store(book: &mut [u8], pile: u16, record: &[u32]) -> u8 {
     let n = desks(book);
     answer(n.and_then(|desks| for_desks!(desks, store_n(book, pile, record))))
 }
+
+const TICKET: usize = 11;
+
+/// Eight packed digits as one word: whether all are right, and their number.
+/// Digits are joined to pairs, pairs to fours, fours to the number, all lanes
+/// of the word at once.
+fn unpacked(packed: [u8; 4]) -> (bool, u32) {
+    let packed = u32::from_be_bytes(packed);
+    let high = (packed >> 4) & 0x0f0f_0f0f;
+    let low = packed & 0x0f0f_0f0f;
+    // A digit above 9 and 6 more carry into the next nibble.
+    let right = ((high + 0x0606_0606) | (low + 0x0606_0606)) & 0x1010_1010 == 0;
+    let pairs = high * 10 + low;
+    let fours = ((pairs >> 8) & 0x00ff_00ff) * 100 + (pairs & 0x00ff_00ff);
+    (right, (fours >> 16) * 10_000 + (fours & 0xffff))
+}
+
+/// A number below 100,000,000 as eight packed digits.
+fn packed(number: u32) -> [u8; 4] {
+    let (high, low) = (number / 10_000, number % 10_000);
+    let pairs = [high / 100, high % 100, low / 100, low % 100];
+    // p / 10 is p * 103 / 1024 for p below 100, and 16 (p / 10) + p % 10 is
+    // p + 6 (p / 10).
+    pairs.map(|pair| (pair + 6 * ((pair * 103) >> 10)) as u8)
+}
+
+fn values_wrong(pile: u32, tonnes: u32, kind: u8, desk: u8) -> bool {
+    (pile.wrapping_sub(1) > 65_534)
+        | (tonnes.wrapping_sub(1) >= MOST_AMOUNT)
+        | (kind.wrapping_sub(1) > 1)
+        | (desk > 7)
+}
+
+pub fn read_ticket(
+    bytes: &[u8],
+    number: &mut u32,
+    pile: &mut u32,
+    tonnes: &mut u32,
+    kind: &mut u8,
+    desk: &mut u8,
+) -> u8 {
+    let Ok(&[a, b, c, d, e, f, g, h, i, k, l]) = <&[u8; TICKET]>::try_from(bytes) else {
+        return 3;
+    };
+    let (number_right, the_number) = unpacked([a, b, c, d]);
+    let (pile_right, the_pile) = unpacked([0, e, f, g]);
+    let (tonnes_right, the_tonnes) = unpacked([0, 0, h, i]);
+    let digits_right = number_right & pile_right & tonnes_right;
+    if !digits_right | values_wrong(the_pile, the_tonnes, k, l) {
+        return if !number_right || !pile_right {
+            33
+        } else if !(1..=65_535).contains(&the_pile) {
+            34
+        } else if !tonnes_right {
+            33
+        } else if !(1..=MOST_AMOUNT).contains(&the_tonnes) {
+            13
+        } else {
+            35
+        };
+    }
+    (*number, *pile, *tonnes) = (the_number, the_pile, the_tonnes);
+    (*kind, *desk) = (k, l);
+    0
+}
+
+pub fn write_ticket(number: u32, pile: u32, tonnes: u32, kind: u8, desk: u8, out: &mut [u8]) -> u8 {
+    if (number > 99_999_999) | values_wrong(pile, tonnes, kind, desk) {
+        return if number > 99_999_999 {
+            33
+        } else if !(1..=65_535).contains(&pile) {
+            34
+        } else if !(1..=MOST_AMOUNT).contains(&tonnes) {
+            13
+        } else {
+            35
+        };
+    }
+    let Some(out) = out.first_chunk_mut::<TICKET>() else {
+        return 8;
+    };
+    let [a, b, c, d] = packed(number);
+    let [_, e, f, g] = packed(pile);
+    let [_, _, h, i] = packed(tonnes);
+    *out = [a, b, c, d, e, f, g, h, i, kind, desk];
+    0
+}

@@ -20,6 +20,8 @@ pub struct Version {
     pub most: fn(&[u8], u8, u16, &mut u32) -> u8,
     pub fetch: fn(&[u8], u16, &mut [u32]) -> u8,
     pub store: fn(&mut [u8], u16, &[u32]) -> u8,
+    pub read_ticket: fn(&[u8], &mut u32, &mut u32, &mut u32, &mut u8, &mut u8) -> u8,
+    pub write_ticket: fn(u32, u32, u32, u8, u8, &mut [u8]) -> u8,
 }
 
 macro_rules! version {
@@ -40,6 +42,8 @@ macro_rules! version {
             most: $functions::most,
             fetch: $functions::fetch,
             store: $functions::store,
+            read_ticket: $functions::read_ticket,
+            write_ticket: $functions::write_ticket,
         }
     };
 }

@@ -5,6 +5,7 @@ mod parts;
 mod raw;
 mod refusals;
 mod takes;
+mod tickets;
 mod worked;
 
 use pitbook::{Book, Opening};

@@ -9,11 +9,13 @@ pub mod acts;
 pub mod book;
 pub mod bytes;
 pub mod record;
+pub mod tickets;
 #[cfg(test)]
 mod worked;
 
 use acts::{Act, Kind};
 use book::{Book, Opening, Pile, Row};
+use tickets::Ticket;
 
 // Table, place "Opening".
 pub fn open(desks: u8, piles: u8, list: &[u32], out: &mut [u8]) -> u8 {
@@ -338,4 +340,42 @@ pub fn later(a: &[u8], b: &[u8]) -> u8 {
     }
     // The first is later, or "of two alike rows the first is handed on."
     1
+}
+
+pub fn read_ticket(
+    bytes: &[u8],
+    number: &mut u32,
+    pile: &mut u32,
+    tonnes: &mut u32,
+    kind: &mut u8,
+    desk: &mut u8,
+) -> u8 {
+    match tickets::parse(bytes) {
+        Ok(ticket) => {
+            (*number, *pile, *tonnes) = (ticket.number, ticket.pile, ticket.tonnes);
+            (*kind, *desk) = (ticket.kind, ticket.desk);
+            0
+        }
+        Err(refusal) => refusal,
+    }
+}
+
+pub fn write_ticket(number: u32, pile: u32, tonnes: u32, kind: u8, desk: u8, out: &mut [u8]) -> u8 {
+    let ticket = Ticket {
+        number,
+        pile,
+        tonnes,
+        kind,
+        desk,
+    };
+    let printed = match tickets::print(&ticket) {
+        Ok(printed) => printed,
+        Err(refusal) => return refusal,
+    };
+    // "Writing meets 8 last; bytes past the ticket stay."
+    if out.len() < printed.len() {
+        return 8;
+    }
+    out[..printed.len()].copy_from_slice(&printed);
+    0
 }

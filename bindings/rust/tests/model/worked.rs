@@ -216,3 +216,18 @@ fn sizes() {
     assert_eq!(open(8, 32, &list, &mut large), 0);
     assert_eq!(check(&large), 0);
 }
+
+/// Request 3/12's ticket 12345678: desk 0 tips 30 tonnes onto pile 7.
+#[test]
+fn ticket() {
+    let bytes = [
+        0x12, 0x34, 0x56, 0x78, 0x00, 0x00, 0x07, 0x00, 0x30, 0x01, 0x00,
+    ];
+    let mut out = [0; 11];
+    assert_eq!(write_ticket(12_345_678, 7, 30, 1, 0, &mut out), 0);
+    assert_eq!(out, bytes);
+    let mut fields = ([77; 3], [77; 2]);
+    let ([number, pile, tonnes], [kind, desk]) = &mut fields;
+    assert_eq!(read_ticket(&bytes, number, pile, tonnes, kind, desk), 0);
+    assert_eq!(fields, ([12_345_678, 7, 30], [1, 0]));
+}

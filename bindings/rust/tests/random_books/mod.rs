@@ -19,7 +19,7 @@ impl Random {
     }
 
     /// From 0 to below the limit.
-    fn below(&mut self, limit: usize) -> usize {
+    pub fn below(&mut self, limit: usize) -> usize {
         (self.next() % limit as u64) as usize
     }
 

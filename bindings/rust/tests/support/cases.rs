@@ -8,6 +8,7 @@ use super::lawful;
 use super::pairs;
 use super::places::{Case, Place};
 use super::records;
+use super::tickets;
 use crate::model::book::{Book, Pile, TALLY_LIMIT};
 use crate::model::bytes;
 
@@ -16,6 +17,8 @@ pub fn random(place: Place, chance: &mut Chance) -> Case {
         Place::Open => open(chance),
         Place::Take => take(chance),
         Place::Later => later(chance),
+        Place::ReadTicket => tickets::read(chance),
+        Place::WriteTicket => tickets::written(chance),
         _ => on_a_book(place, chance),
     }
 }

@@ -8,6 +8,7 @@ pub mod lawful;
 pub mod pairs;
 pub mod places;
 pub mod records;
+pub mod tickets;
 
 use chance::Chance;
 use places::Case;

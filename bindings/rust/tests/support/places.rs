@@ -1,5 +1,7 @@
 //! The entry points ("places"), what is lent to them, and the call itself.
 
+use crate::model::tickets::Ticket;
+
 #[derive(Clone, Copy, Debug, PartialEq, Eq)]
 pub enum Place {
     Open,
@@ -19,9 +21,11 @@ pub enum Place {
     Fetch,
     Store,
     Later,
+    ReadTicket,
+    WriteTicket,
 }
 
-pub const PLACES: [Place; 17] = [
+pub const PLACES: [Place; 19] = [
     Place::Open,
     Place::Check,
     Place::Contents,
@@ -39,6 +43,8 @@ pub const PLACES: [Place; 17] = [
     Place::Fetch,
     Place::Store,
     Place::Later,
+    Place::ReadTicket,
+    Place::WriteTicket,
 ];
 
 impl Place {
@@ -61,6 +67,8 @@ impl Place {
             Place::Fetch => "fetch",
             Place::Store => "store",
             Place::Later => "later",
+            Place::ReadTicket => "read_ticket",
+            Place::WriteTicket => "write_ticket",
         }
     }
 
@@ -73,12 +81,13 @@ impl Place {
 /// Everything lent to one call. What a place does not use is empty.
 #[derive(Clone, Debug, Default, PartialEq, Eq)]
 pub struct Lent {
-    /// The book (the taker's own, the one opened into), or the first row.
+    /// The book (the taker's own, the one opened into), the first row, or the
+    /// bytes of a ticket.
     pub book: Vec<u8>,
-    /// The copy, or the second row.
+    /// The copy, the second row, or a ticket's kind and desk.
     pub copy: Vec<u8>,
-    /// The opening's list, the contents' numbers, the record, or the one
-    /// number of an answer.
+    /// The opening's list, the contents' numbers, the record, the one number
+    /// of an answer, or a ticket's number, pile and tonnes.
     pub numbers: Vec<u32>,
     /// The contents' positions.
     pub positions: Vec<u32>,
@@ -119,6 +128,8 @@ pub struct Case {
     pub pile: u16,
     pub receiver: u8,
     pub amount: u32,
+    /// The ticket to be written.
+    pub ticket: Ticket,
     pub lent: Lent,
 }
 
@@ -132,6 +143,7 @@ impl Case {
             pile: 0,
             receiver: 0,
             amount: 0,
+            ticket: Ticket::default(),
             lent: Lent::default(),
         }
     }
@@ -140,6 +152,10 @@ impl Case {
     pub fn arguments(&self) -> String {
         match self.place {
             Place::Open => format!("desks {}, piles {}", self.desks, self.piles),
+            Place::ReadTicket => format!("{:02x?}", self.lent.book),
+            Place::WriteTicket => {
+                format!("{:?}, {} bytes", self.ticket, self.lent.book.len())
+            }
             _ => format!(
                 "desk {}, pile {}, receiver {}, amount {}, {} book bytes",
                 self.desk,
@@ -185,6 +201,8 @@ pub struct Functions {
     pub fetch: fn(&[u8], u16, &mut [u32]) -> u8,
     pub store: fn(&mut [u8], u16, &[u32]) -> u8,
     pub later: fn(&[u8], &[u8]) -> u8,
+    pub read_ticket: fn(&[u8], &mut u32, &mut u32, &mut u32, &mut u8, &mut u8) -> u8,
+    pub write_ticket: fn(u32, u32, u32, u8, u8, &mut [u8]) -> u8,
 }
 
 macro_rules! functions_of {
@@ -207,6 +225,8 @@ macro_rules! functions_of {
             fetch: $($module)::+::fetch,
             store: $($module)::+::store,
             later: $($module)::+::later,
+            read_ticket: $($module)::+::read_ticket,
+            write_ticket: $($module)::+::write_ticket,
         }
     };
 }
@@ -247,6 +267,19 @@ impl Functions {
             Place::Fetch => (self.fetch)(book, pile, numbers),
             Place::Store => (self.store)(book, pile, numbers),
             Place::Later => (self.later)(book, copy),
+            Place::ReadTicket => {
+                let [number, pile, tonnes] = numbers else {
+                    panic!("a ticket has three numbers");
+                };
+                let [kind, desk] = copy else {
+                    panic!("a ticket has a kind and a desk");
+                };
+                (self.read_ticket)(book, number, pile, tonnes, kind, desk)
+            }
+            Place::WriteTicket => {
+                let t = case.ticket;
+                (self.write_ticket)(t.number, t.pile, t.tonnes, t.kind, t.desk, book)
+            }
         }
     }
 
