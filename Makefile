@@ -25,10 +25,11 @@ test: listings test-c test-rust
 	$(RT) fmt --check
 	$(RT) ci
 
-# Proves the rules and the lister, shows the cases of document 01 that two theorems of the rules say hold, and lists the worked book G.
+# Proves the rules, the tickets and the lister, shows the cases that a theorem each says hold, and lists the worked book G.
+CASES = crates/rules/proofs/Cases/Letters.antt crates/rules/proofs/Cases/Places.antt crates/ticket/proofs/Cases.antt
 run:
-	@$(RT) check rules lister
-	@sed -n 's/^.*case "\(.*\)".*$$/holds: \1/p' crates/rules/proofs/Cases/Letters.antt crates/rules/proofs/Cases/Places.antt
+	@$(RT) check rules ticket lister
+	@sed -n 's/^.*case "\(.*\)".*$$/holds: \1/p' $(CASES)
 	@target/bin/lister <crates/lister/stdin
 
 # The lister on every stored book.

@@ -2,15 +2,15 @@
 -- number below 100^w has just one packed form.
 -- Assumes nothing.
 use Prim.Native.Nat.{ℕ, zero, suc, _+_, _-_, _*_, _/_, _%_, _^_, _≤_, _<_}
-use native.Mathlib.Nat.{le-refl, le-of-eq, le-step, add-zero, zero-add, add-suc, div-lt-iff-lt-mul, mod-lt, pow-suc}
+use native.Mathlib.Nat.{le-refl, le-of-eq, le-step, zero-add, div-lt-iff-lt-mul, mod-lt, pow-suc}
 use native.Mathlib.Omega.{arith}
 use native.Mathlib.Numerals.{add-one}
 use mathlib.Core.Path.{_≡_, refl, ap, ap₂, sym, subst, _∙_}
-use mathlib.Core.Bool.{Bool, true, false}
+use mathlib.Core.Bool.{true}
 use mathlib.Core.List.{List, [], _∷_, _++_}
-use lib.ListN.{length, getD, set, take, drop, length-append, length-drop, List·getD-append}
-use lib.Dec.{leb, lit<}
-use lib.Seq.{sets, set-comm, getD-at, take-suc, getD-drop, take-all, getD-append-add}
+use lib.ListN.{length, getD, set, drop, length-append, length-drop, List·getD-append}
+use lib.Dec.{lit<}
+use lib.Seq.{sets, set-comm, getD-at, take-suc, getD-drop, take-all}
 use borrow.Author.Tests.{leb-true, le-leb}
 use Rattle.rules.specs.Loops.{_and_, every}
 use Rattle.rules.specs.Numbers.{part}
@@ -27,7 +27,7 @@ pair-right : (x : ℕ) → x < 100 → pairRight (pairByte x) ≡ true
 unfolding pairRight
 pair-right x l = and-both (le-leb (pairByte x / 16) 9 (omega arith)) (le-leb (pairByte x % 16) 9 (omega arith))
 
-pub right-digits : (b : ℕ) → pairRight b ≡ true → (b / 16 ≤ 9) × (b % 16 ≤ 9)
+right-digits : (b : ℕ) → pairRight b ≡ true → (b / 16 ≤ 9) × (b % 16 ≤ 9)
 unfolding pairRight
 right-digits b e = (leb-true _ _ (and-left _ _ e), leb-true _ _ (and-right _ _ e))
 
@@ -44,12 +44,12 @@ length-packed (suc w) x = length-append (packedBytes w (x / 100)) _ ∙ omega (a
 
 -- what packed bytes say depends on these bytes alone
 module _ (b b′ : List ℕ) (at at′ : ℕ) where
-  pub packed-cong : (w : ℕ) → ((j : ℕ) → j < w → getD b (at + j) 0 ≡ getD b′ (at′ + j) 0) → packedNumber w b at ≡ packedNumber w b′ at′
+  packed-cong : (w : ℕ) → ((j : ℕ) → j < w → getD b (at + j) 0 ≡ getD b′ (at′ + j) 0) → packedNumber w b at ≡ packedNumber w b′ at′
   unfolding packedNumber
   packed-cong zero h = refl
   packed-cong (suc w) h = ap₂ (λ (x y : ℕ). 100 * x + pairNumber y) (packed-cong w (λ j l. h j (le-step l))) (h w (le-refl (suc w)))
 
-  pub right-cong : (w : ℕ) → ((j : ℕ) → j < w → getD b (at + j) 0 ≡ getD b′ (at′ + j) 0) → digitsRight w b at ≡ digitsRight w b′ at′
+  right-cong : (w : ℕ) → ((j : ℕ) → j < w → getD b (at + j) 0 ≡ getD b′ (at′ + j) 0) → digitsRight w b at ≡ digitsRight w b′ at′
   unfolding digitsRight
   right-cong w h = every-cong w (λ j l. ap pairRight (h j l))
 

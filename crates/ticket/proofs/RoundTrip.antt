@@ -1,27 +1,28 @@
--- A ticket that was read and is written again is the same bytes, and a ticket that was written is read unaltered.
+-- A ticket that was read and is written again is the same bytes, and a ticket that was written is read unaltered. Of a number that is read only the
+-- digits can be wrong.
 -- Assumes nothing.
-use Prim.Native.Nat.{ℕ, suc, _≤_, _<_}
+use Prim.Native.Nat.{ℕ, suc, _≤_}
 use native.Mathlib.Omega.{arith}
 use native.Mathlib.Nat.{le-of-eq}
-use mathlib.Core.Path.{_≡_, refl, ap, ap₂, sym, subst, _∙_}
+use mathlib.Core.Path.{_≡_, refl, ap, ap₂, sym, _∙_}
 use mathlib.Core.Bool.{Bool, true, not}
+use mathlib.Core.Logic.{⊎-elim}
 use mathlib.Core.List.{List, [], _∷_, _++_}
-use lib.ListN.{length, getD, take, drop}
-use lib.Dec.{lit<}
+use lib.ListN.{length, getD, take}
 use lib.Seq.{sets, take-all, drop-cons}
-use borrow.Author.Tests.{eqb-true, eq-eqb, ltb-false, le-ltb}
-use Rattle.rules.specs.Loops.{every}
+use borrow.Author.Tests.{eqb-true, eq-eqb, ltb-false, le-ltb, le-leb}
+use Rattle.rules.specs.Loops.{between, every}
 use Rattle.rules.specs.Numbers.{part}
 use Rattle.rules.specs.Pile.{amountLimit}
-use Rattle.rules.specs.Refusals.{_when_, _orElse_, done}
-use Rattle.rules.proofs.Loops.Logic.{in-range}
+use Rattle.rules.specs.Refusals.{_when_, _orElse_}
+use Rattle.rules.proofs.Loops.Logic.{decided, and-both, in-range}
 use Rattle.rules.proofs.Loops.Refusals.{when-done, when-not-done, orElse-first, orElse-rest, none-met, not-met, when-accepted}
 use Rattle.rules.proofs.Loops.Pieces.{part-add}
 use Rattle.rules.proofs.Loops.Sets.{part-sets}
 use Rattle.ticket.specs.declared.Ticket.{Ticket}
 use Rattle.ticket.specs.Packed.{packedNumber, packedBytes, digitsRight}
-use Rattle.ticket.specs.Tickets.{ticketLength, numberLimit, ticketBytes, ticketOf, fieldAnswer, fieldsAnswer, readAnswer, writeAnswer, noTicket, handedBack, reading, afterWrite}
-use Rattle.ticket.proofs.Digits.{number-packed, right-packed, packed-number}
+use Rattle.ticket.specs.Tickets.{ticketLength, numberLimit, ticketBytes, ticketOf, fieldAnswer, fieldsAnswer, readAnswer, writeAnswer, handedBack, reading, afterWrite}
+use Rattle.ticket.proofs.Digits.{number-packed, right-packed, packed-below, packed-number}
 
 -- what a field says that is right: its digits are, and its value is in range
 field-right : (refusal low high : ℕ) (right : Bool) (x : ℕ) → fieldAnswer (suc refusal) low high right x ≡ 0 → (right ≡ true) × (x ≤ high)
@@ -120,3 +121,14 @@ written-and-read t out e =
     let bytes-are : part 0 ticketLength (sets out 0 (ticketBytes t)) ≡ ticketBytes t =
     rw (length-ticket t) at (part-sets out 0 (ticketBytes t) (omega (arith, length-ticket t, room))) in
     ap (λ (after : List ℕ). reading (part 0 ticketLength after)) (when-accepted _ _ _ e) ∙ ap reading bytes-are ∙ read-back t (orElse-first _ _ e)
+
+-- four packed bytes say no number over the limit
+below-limit : (b : List ℕ) → digitsRight 4 b 0 ≡ true → between 0 numberLimit (packedNumber 4 b 0) ≡ true
+unfolding between
+below-limit b right =
+    let x = packedNumber 4 b 0 in
+    and-both (le-leb 0 x (omega arith)) (le-leb x numberLimit (omega (arith, packed-below b 0 4 right)))
+
+pub number-in-range : (b : List ℕ) → fieldAnswer 33 0 numberLimit (digitsRight 4 b 0) (packedNumber 4 b 0) ≡ 33 when not (digitsRight 4 b 0)
+unfolding fieldAnswer _when_ _orElse_
+number-in-range b = ⊎-elim (λ right. rw (below-limit b right) (rw right refl)) (λ wrong. rw wrong refl) (decided (digitsRight 4 b 0))
