@@ -4,7 +4,8 @@
  * Every function answers with a refusal's number, or with PIT_DONE. The first refusal in the order that stands at a function is
  * given. A refused call leaves all that it was lent as it was.
  *
- * A book, a list or a row goes in as a pointer and its length. Lengths of books and rows count bytes, all others count numbers.
+ * A book, a list, a row or a ticket goes in as a pointer and its length. Lengths of books, rows and tickets count bytes, all others
+ * count numbers.
  *
  * What the caller owes:
  * - no pointer is NULL, not even where the length is 0: any address that is aligned for its type will do then;

@@ -18,7 +18,7 @@ use crate::{Refusal, raw, refusal::done};
 /// ```
 #[derive(Clone, Copy, Debug, Default, PartialEq, Eq, Hash)]
 pub struct Ticket {
-    /// The bridge's number of the load, up to 99,999,999.
+    /// The bridge's number of the load, up to [`Ticket::NUMBER_LIMIT`].
     pub number: u32,
     /// The pile's number, 1 to 65,535.
     pub pile: u32,
@@ -33,6 +33,9 @@ pub struct Ticket {
 impl Ticket {
     /// How many bytes a ticket has.
     pub const LENGTH: usize = 11;
+
+    /// The highest number of a ticket.
+    pub const NUMBER_LIMIT: u32 = 99_999_999;
 
     /// The kind of a load that was tipped.
     pub const TIP: u8 = 1;

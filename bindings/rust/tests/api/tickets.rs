@@ -40,7 +40,7 @@ fn the_limits_of_each_field() {
             ..WORKED
         },
         Ticket {
-            number: 99_999_999,
+            number: Ticket::NUMBER_LIMIT,
             ..WORKED
         },
         Ticket { pile: 1, ..WORKED },
@@ -120,7 +120,7 @@ fn refused_in_the_fields_order() {
         assert_eq!(Ticket::read(&bytes), Err(refusal), "{bytes:02x?}");
     }
     let writes = [
-        ((100_000_000, 0, 0, 0, 8), Refusal::DigitsWrong),
+        ((Ticket::NUMBER_LIMIT + 1, 0, 0, 0, 8), Refusal::DigitsWrong),
         ((u32::MAX, 0, 0, 0, 8), Refusal::DigitsWrong),
         ((0, 0, 0, 0, 8), Refusal::TicketPileWrong),
         ((0, 65_536, 0, 0, 8), Refusal::TicketPileWrong),
