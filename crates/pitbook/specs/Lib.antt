@@ -1,5 +1,4 @@
 pub mod Queries
 pub mod Contents
 pub mod Numbers
-pub mod Tickets
 pub mod Later

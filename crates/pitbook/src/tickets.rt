@@ -2,8 +2,7 @@
 use ticket::Ticket;
 ghost use mathlib.Core.Path.{_≡_};
 ghost use Rattle.rules.specs.Refusals.{done};
-ghost use Rattle.ticket.specs.Tickets.{ticketOf, readAnswer, writeAnswer, afterWrite};
-ghost use Rattle.pitbook.specs.Tickets.{asTicket};
+ghost use Rattle.ticket.specs.Tickets.{asTicket, ticketOf, readAnswer, writeAnswer, afterWrite};
 
 // Reads a ticket of 11 bytes; refused with 3, 33, 34, 13 or 35. Kind is 1 for a tip and 2 for a draw.
 #[no_mangle]

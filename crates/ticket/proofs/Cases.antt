@@ -10,14 +10,11 @@ use Rattle.rules.proofs.Cases.Table.{Case, case, AllHold, all-hold, open-loops,
 use Rattle.ticket.specs.declared.Ticket.{Ticket}
 use Rattle.ticket.specs.declared.Reading.{Reading}
 use Rattle.ticket.specs.Packed.{pairRight, packedNumber, packedBytes, digitsRight}
-use Rattle.ticket.specs.Tickets.{ticketBytes, ticketOf, fieldAnswer, fieldsAnswer, readAnswer, writeAnswer, reading, afterWrite}
-
-abbrev ticket : ℕ → ℕ → ℕ → ℕ → ℕ → Ticket
-ticket number pile tonnes kind desk = record { number = number; pile = pile; tonnes = tonnes; kind = kind; desk = desk }
+use Rattle.ticket.specs.Tickets.{asTicket, ticketBytes, ticketOf, fieldAnswer, fieldsAnswer, readAnswer, writeAnswer, reading, afterWrite}
 
 -- ticket 12345678: 30 tonnes tipped onto pile 7 by desk 0. In hexadecimal 12 34 56 78 00 00 07 00 30 01 00.
 abbrev worked : Ticket
-worked = ticket 12345678 7 30 1 0
+worked = asTicket 12345678 7 30 1 0
 
 abbrev worked-bytes : List ℕ
 worked-bytes = 18 ∷ 52 ∷ 86 ∷ 120 ∷ 0 ∷ 0 ∷ 7 ∷ 0 ∷ 48 ∷ 1 ∷ 0 ∷ []
@@ -30,7 +27,7 @@ abbrev read : ℕ → List ℕ → ℕ
 read at v = readAnswer (sets worked-bytes at v)
 
 abbrev write : ℕ → ℕ → ℕ → ℕ → ℕ → ℕ → ℕ
-write number pile tonnes kind desk room = writeAnswer (ticket number pile tonnes kind desk) (replicate room 0)
+write number pile tonnes kind desk room = writeAnswer (asTicket number pile tonnes kind desk) (replicate room 0)
 
 -- wrong fields, each beside wrong ones after it; wrong digits make values that are out of range too
 abbrev desk-wrong : List ℕ
@@ -111,7 +108,7 @@ table =
     ∷ [])
     (33 ∷ 34 ∷ 34 ∷ 13 ∷ 13 ∷ 35 ∷ 35 ∷ 35 ∷ 8 ∷ 0 ∷ [])
     ∷ case "Bytes past the ticket stay, and a refused writing leaves all as it was"
-    (afterWrite worked (replicate 13 9) ++ afterWrite worked (replicate 10 9) ++ afterWrite (ticket 0 7 30 1 8) (replicate 11 9))
+    (afterWrite worked (replicate 13 9) ++ afterWrite worked (replicate 10 9) ++ afterWrite (asTicket 0 7 30 1 8) (replicate 11 9))
     (worked-bytes ++ (9 ∷ 9 ∷ []) ++ replicate 10 9 ++ replicate 11 9)
     ∷ []
 

@@ -2,18 +2,18 @@
 -- Assumes nothing.
 use Prim.Native.Nat.{ℕ}
 use mathlib.Core.Path.{_≡_, refl, ap, ap₂, sym, _∙_}
+use mathlib.Core.Bool.{Bool, true, false, not}
 use mathlib.Core.List.{List, [], _∷_}
 use mathlib.Core.Logic.{_≢_}
 use lib.ListN.{length, getD}
 use lib.Seq.{sets}
-use mathlib.Core.Bool.{Bool, true, false, not}
 use borrow.Author.Tests.{eq-eqb, ne-eqb}
 use Rattle.rules.specs.Loops.{between}
 use Rattle.rules.specs.Refusals.{_when_, _orElse_}
 use Rattle.rules.proofs.Loops.Refusals.{orElse-passes, not-met, when-accepted, when-refused}
 use Rattle.ticket.specs.declared.Ticket.{Ticket}
 use Rattle.ticket.specs.Packed.{packedNumber, packedBytes, digitsRight}
-use Rattle.ticket.specs.Tickets.{ticketLength, ticketOf, fieldAnswer, fieldsAnswer, readAnswer, writeAnswer, noTicket, handedBack, reading, afterWrite, ticketBytes}
+use Rattle.ticket.specs.Tickets.{ticketLength, asTicket, ticketOf, fieldAnswer, fieldsAnswer, readAnswer, writeAnswer, noTicket, handedBack, reading, afterWrite, ticketBytes}
 
 module _ (refusal low high : ℕ) {right : Bool} (x : ℕ) where
   pub digits-wrong : right ≡ false → 33 ≡ fieldAnswer refusal low high right x
@@ -30,7 +30,7 @@ module _ (refusal low high : ℕ) {right : Bool} (x : ℕ) where
 
 -- a reading: the ticket of 11 bytes and its answer, by what each packed field says
 abbrev pub unpacked : List ℕ → ℕ → ℕ → ℕ → Ticket
-unpacked b number pile tonnes = record { number = number; pile = pile; tonnes = tonnes; kind = getD b 9 0; desk = getD b 10 0 }
+unpacked b number pile tonnes = asTicket number pile tonnes (getD b 9 0) (getD b 10 0)
 
 module _ (b : List ℕ) where
   pub fields-read : {d₁ d₂ d₃ : Bool} {number pile tonnes : ℕ} → length b ≡ ticketLength

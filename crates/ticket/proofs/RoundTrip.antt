@@ -24,10 +24,10 @@ use Rattle.ticket.specs.Packed.{packedNumber, packedBytes, digitsRight}
 use Rattle.ticket.specs.Tickets.{ticketLength, numberLimit, ticketBytes, ticketOf, fieldAnswer, fieldsAnswer, readAnswer, writeAnswer, handedBack, reading, afterWrite}
 use Rattle.ticket.proofs.Digits.{number-packed, right-packed, packed-below, packed-number}
 
--- what a field says that is right: its digits are, and its value is in range
-field-right : (refusal low high : ℕ) (right : Bool) (x : ℕ) → fieldAnswer (suc refusal) low high right x ≡ 0 → (right ≡ true) × (x ≤ high)
+-- what an accepted field says: its digits are right, and its value is in range
+field-accepted : (refusal low high : ℕ) (right : Bool) (x : ℕ) → fieldAnswer (suc refusal) low high right x ≡ 0 → (right ≡ true) × (x ≤ high)
 unfolding fieldAnswer
-field-right refusal low high right x e =
+field-accepted refusal low high right x e =
     (when-not-done 32 right (orElse-first _ _ e), in-range low high x (when-not-done refusal _ (orElse-rest _ _ e)) .1)
 
 record FieldsRight (d₁ d₂ d₃ : Bool) (t : Ticket) : Type 0 where
@@ -35,14 +35,14 @@ record FieldsRight (d₁ d₂ d₃ : Bool) (t : Ticket) : Type 0 where
   of-pile : (d₂ ≡ true) × (t .pile ≤ 65535)
   of-tonnes : (d₃ ≡ true) × (t .tonnes ≤ amountLimit)
 
-fields-right : (d₁ d₂ d₃ : Bool) (t : Ticket) → fieldsAnswer d₁ d₂ d₃ t ≡ 0 → FieldsRight d₁ d₂ d₃ t
+fields-accepted : (d₁ d₂ d₃ : Bool) (t : Ticket) → fieldsAnswer d₁ d₂ d₃ t ≡ 0 → FieldsRight d₁ d₂ d₃ t
 unfolding fieldsAnswer
-fields-right d₁ d₂ d₃ t e =
+fields-accepted d₁ d₂ d₃ t e =
     let after-number = orElse-rest _ _ e in
     record {
-      of-number = field-right _ _ _ _ _ (orElse-first _ _ e);
-      of-pile = field-right _ _ _ _ _ (orElse-first _ _ after-number);
-      of-tonnes = field-right _ _ _ _ _ (orElse-first _ _ (orElse-rest _ _ after-number));
+      of-number = field-accepted _ _ _ _ _ (orElse-first _ _ e);
+      of-pile = field-accepted _ _ _ _ _ (orElse-first _ _ after-number);
+      of-tonnes = field-accepted _ _ _ _ _ (orElse-first _ _ (orElse-rest _ _ after-number));
     }
 
 -- what is read again: the bytes of the ticket that they say
@@ -66,7 +66,7 @@ module _ (b : List ℕ) (e : readAnswer b ≡ 0) where
   pub same-bytes : ticketBytes (ticketOf b) ≡ b
   unfolding ticketBytes ticketOf
   same-bytes =
-      let right = fields-right _ _ _ _ fields in
+      let right = fields-accepted _ _ _ _ fields in
       ap₂ _++_
       (ap₂ _++_
       (ap₂ _++_ (packed-number b 0 4 (right .of-number .0) (omega (arith, eleven))) (packed-number b 4 3 (right .of-pile .0) (omega (arith, eleven))))
@@ -79,7 +79,7 @@ module _ (b : List ℕ) (e : readAnswer b ≡ 0) where
       → (writeAnswer (reading b .ticket) out ≡ 0) × (afterWrite (reading b .ticket) out ≡ sets out 0 b)
   unfolding reading writeAnswer afterWrite
   read-and-written out room =
-      let right = fields-right _ _ _ _ fields in
+      let right = fields-accepted _ _ _ _ fields in
       let read : reading b .ticket ≡ ticketOf b = when-accepted _ _ _ e in
       let values : fieldsAnswer true true true (ticketOf b) ≡ 0 = rw (right .of-number .0, right .of-pile .0, right .of-tonnes .0) at fields in
       let accepted : writeAnswer (ticketOf b) out ≡ 0 = none-met values (not-met 8 (le-ltb _ _ room)) in
@@ -94,7 +94,7 @@ module _ (t : Ticket) (values : fieldsAnswer true true true t ≡ 0) where
   same-ticket : ticketOf (ticketBytes t) ≡ t
   unfolding ticketOf ticketBytes packedBytes packedNumber
   same-ticket =
-      let right = fields-right true true true t values in
+      let right = fields-accepted true true true t values in
       let number-is : packedNumber 4 (ticketBytes t) 0 ≡ t .number = number-packed 4 (t .number) (omega (arith, right .of-number .1)) in
       let pile-is : packedNumber 3 (ticketBytes t) 4 ≡ t .pile = number-packed 3 (t .pile) (omega (arith, right .of-pile .1)) in
       let tonnes-is : packedNumber 2 (ticketBytes t) 7 ≡ t .tonnes = number-packed 2 (t .tonnes) (omega (arith, right .of-tonnes .1)) in

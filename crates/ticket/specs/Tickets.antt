@@ -19,6 +19,10 @@ ticketLength = 11
 abbrev pub numberLimit : ℕ
 numberLimit = 99999999
 
+-- the ticket of five numbers
+abbrev pub asTicket : (number pile tonnes kind desk : ℕ) → Ticket
+asTicket number pile tonnes kind desk = record { number = number; pile = pile; tonnes = tonnes; kind = kind; desk = desk }
+
 -- the bytes of a ticket: its number in 4, its pile in 3 and its tonnes in 2, packed; then its kind, 1 for a tip and 2 for a draw, and its desk
 unfoldable pub ticketBytes : Ticket → List ℕ
 ticketBytes t = packedBytes 4 (t .number) ++ packedBytes 3 (t .pile) ++ packedBytes 2 (t .tonnes) ++ t .kind ∷ t .desk ∷ []
@@ -53,13 +57,13 @@ readAnswer b =
     3 when not (eqb (length b) ticketLength)
     orElse fieldsAnswer (digitsRight 4 b 0) (digitsRight 3 b 4) (digitsRight 2 b 7) (ticketOf b)
 
--- writing a ticket into a lent buffer: values have no digits above 9
+-- writing a ticket into a lent buffer: its numbers are not packed yet, so no digit of them can be wrong
 unfoldable pub writeAnswer : Ticket → List ℕ → ℕ
 writeAnswer t out = fieldsAnswer true true true t orElse 8 when ltb (length out) ticketLength
 
 -- what a reading hands back: its answer, and beside a refusal the ticket of all zeros
 abbrev pub noTicket : Ticket
-noTicket = record { number = 0; pile = 0; tonnes = 0; kind = 0; desk = 0 }
+noTicket = asTicket 0 0 0 0 0
 
 abbrev pub handedBack : ℕ → Ticket → Reading
 handedBack answer ticket = record { answer = answer; ticket = ticket }

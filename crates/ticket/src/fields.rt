@@ -4,6 +4,7 @@ ghost use mathlib.Core.Path.{_≡_};
 ghost use Rattle.rules.specs.Loops.{between};
 ghost use Rattle.ticket.specs.Tickets.{fieldAnswer, fieldsAnswer};
 
+// Both limits are within.
 fn between(low: u32, high: u32, x: u32) -> bool
     ensures { λ r. ⌜ r ≡ between low high x ⌝ }
 {

@@ -93,6 +93,10 @@ fn every_tonnage_and_every_digit() {
                 assert_eq!(read.unwrap().to_bytes(), Ok(with(at, &[byte])));
             } else if !right {
                 assert_eq!(read, Err(Refusal::DigitsWrong));
+            } else {
+                let refusal =
+                    [Refusal::TicketPileWrong, Refusal::AmountWrong][usize::from(at == 8)];
+                assert_eq!(read, Err(refusal));
             }
         }
     }
