@@ -122,7 +122,7 @@ written-and-read t out e =
     rw (length-ticket t) at (part-sets out 0 (ticketBytes t) (omega (arith, length-ticket t, room))) in
     ap (λ (after : List ℕ). reading (part 0 ticketLength after)) (when-accepted _ _ _ e) ∙ ap reading bytes-are ∙ read-back t (orElse-first _ _ e)
 
--- four packed bytes say no number over the limit
+-- four bytes with right digits say no number over the limit
 below-limit : (b : List ℕ) → digitsRight 4 b 0 ≡ true → between 0 numberLimit (packedNumber 4 b 0) ≡ true
 unfolding between
 below-limit b right =

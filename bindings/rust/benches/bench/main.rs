@@ -141,7 +141,8 @@ fn cases(pass: &Pass, size: &Size) {
     });
 }
 
-/// A ticket of 11 bytes, which says the same at every size.
+/// Tickets, which have no desks and piles: one that is read, one whose desk is
+/// refused, and one that is written.
 fn tickets(pass: &Pass) {
     const BYTES: [u8; 11] = [
         0x12, 0x34, 0x56, 0x78, 0x00, 0x43, 0x21, 0x09, 0x87, 0x01, 0x05,
