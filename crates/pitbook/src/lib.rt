@@ -5,6 +5,7 @@ pub mod books;
 pub mod contents;
 mod copies;
 pub mod later;
+pub mod lists;
 pub mod queries;
 pub mod records;
 pub mod tickets;

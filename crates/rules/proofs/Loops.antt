@@ -1,9 +1,10 @@
 -- Loops and lists: nothing here knows the book.
--- Read Logic, Every and Refusals for what a test or an answer tells; Sums; then Ranges, Pieces, Parts, Sets and Partly for lists made of pieces.
+-- Read Logic, Every and Refusals for what a test or an answer tells; Sums and Counts; then Ranges, Pieces, Parts, Sets and Partly for lists made of pieces.
 pub mod Logic
 pub mod Every
 pub mod Refusals
 pub mod Sums
+pub mod Counts
 pub mod Ranges
 pub mod Pieces
 pub mod Parts

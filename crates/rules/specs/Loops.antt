@@ -31,6 +31,13 @@ every (suc n) t = every n t and t n
 unfoldable pub some : ℕ → (ℕ → Bool) → Bool
 some n t = not (every n (λ k. not (t k)))
 
+-- how many numbers below n pass the test
+abbrev pub oneIf : Bool → ℕ
+oneIf b = cond b 1 0
+
+unfoldable pub count : ℕ → (ℕ → Bool) → ℕ
+count n t = sum n (λ k. oneIf (t k))
+
 -- the first number below n at which the test holds, or n
 unfoldable pub index : ℕ → (ℕ → Bool) → ℕ
 index zero t = zero

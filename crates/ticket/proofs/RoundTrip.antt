@@ -74,6 +74,10 @@ module _ (b : List ℕ) (e : readAnswer b ≡ 0) where
       (sym last-two)
       ∙ pieces
 
+  -- and its number is one that a ticket can have
+  pub number-within : ticketOf b .number ≤ numberLimit
+  number-within = fields-accepted _ _ _ _ fields .of-number .1
+
   -- a ticket that was read and is written again is the same bytes
   pub read-and-written : (out : List ℕ) → ticketLength ≤ length out
       → (writeAnswer (reading b .ticket) out ≡ 0) × (afterWrite (reading b .ticket) out ≡ sets out 0 b)

@@ -7,7 +7,7 @@ use mathlib.Core.Bool.{Bool, true, false, cond, false≢true}
 use mathlib.Core.List.{List, [], _∷_}
 use lib.Dec.{eqb}
 use borrow.Author.Tests.{eqb-true}
-use Rattle.rules.specs.Loops.{_and_, _or_, between, sum, every, some, index, flat, list}
+use Rattle.rules.specs.Loops.{_and_, _or_, between, sum, every, some, count, index, flat, list}
 use Rattle.rules.specs.Refusals.{_when_, _orElse_, first, done, Reply, refused, value, reply}
 use Rattle.rules.specs.Numbers.{number, bytes, encode}
 use Rattle.rules.specs.Pile.{bothSides, credit, debit, rights, lawful, tonnage, openingLawful, talliesLawful, pileAnswer, sameOpening}
@@ -71,7 +71,7 @@ enter i pile kind t b = afterAct i (actOn pile kind t) b
 
 -- What a theorem that computes has to open: a name for each file of definitions.
 unfoldable pub open-loops : Unit {0}
-unfolding _and_ _or_ between sum every some index flat list
+unfolding _and_ _or_ between sum every some count index flat list
 open-loops = tt
 
 unfoldable pub open-refusals : Unit {0}

@@ -1,10 +1,9 @@
 -- Pile numbers that rise.
 -- Assumes nothing.
 use Prim.Native.Nat.{ℕ, zero, suc, _^_, _≤_, _<_}
-use native.Mathlib.Nat.{le-of-suc-le, le-of-suc-le-suc, eq-or-lt-of-le, not-suc-le-zero, ne-of-lt}
+use native.Mathlib.Nat.{le-of-suc-le, ne-of-lt}
 use native.Mathlib.Omega.{arith}
 use mathlib.Core.Path.{_≡_, refl, ap, ap₂}
-use mathlib.Core.Logic.{⊎-elim}
 use mathlib.Core.Bool.{true}
 use lib.Dec.{ltb, leb, eqb}
 use borrow.Author.Tests.{leb-true, ltb-true, eq-eqb, ne-eqb}
@@ -13,6 +12,7 @@ use Rattle.rules.specs.Layout.{pileNumberLimit}
 use Rattle.rules.specs.Opening.{previous, rising}
 use Rattle.rules.proofs.Loops.Logic.{and-left, and-right}
 use Rattle.rules.proofs.Loops.Every.{every-at, every-cong, index-first}
+use Rattle.rules.proofs.Loops.Counts.{each-above}
 
 pub rising-cong : (p : ℕ) (f g : ℕ → ℕ) → ((k : ℕ) → k < p → f k ≡ g k) → rising p f ≡ rising p g
 unfolding rising
@@ -31,10 +31,7 @@ number-most p f e k l =
 
 pub number-above : (p : ℕ) (f : ℕ → ℕ) → rising p f ≡ true → (j k : ℕ) → j < k → k < p → f j < f k
 unfolding rising
-number-above p f e j zero l b = absurd (not-suc-le-zero l)
-number-above p f e j (suc k) l b =
-    let step : f k < f (suc k) = ltb-true _ _ (and-left _ _ (every-at p _ e (suc k) b)) in
-    ⊎-elim (λ same. rw same step) (λ less. omega (arith, number-above p f e j k less (le-of-suc-le b))) (eq-or-lt-of-le (le-of-suc-le-suc l))
+number-above p f e = each-above p f (λ k b. ltb-true _ _ (and-left _ _ (every-at p _ e (suc k) b)))
 
 -- a pile's number is found at its own place
 pub place-of-number : (p : ℕ) (f : ℕ → ℕ) → rising p f ≡ true → (k : ℕ) → k < p → index p (λ j. eqb (f j) (f k)) ≡ k

@@ -7,9 +7,9 @@ use native.Mathlib.Numerals.{add-one}
 use mathlib.Core.Path.{_≡_, refl, ap, ap₂, sym, _∙_}
 use mathlib.Core.Logic.{⊎-elim}
 use mathlib.Core.Bool.{Bool, true, false, cond, not, true≢false}
-use borrow.Author.Tests.{not-true}
+use borrow.Author.Tests.{not-true, not-false}
 use Rattle.rules.specs.Loops.{_and_, every, some, index}
-use Rattle.rules.proofs.Loops.Logic.{decided, and-left, and-right, and-both}
+use Rattle.rules.proofs.Loops.Logic.{decided, and-left, and-right, and-both, and-true}
 
 pub every-at : (n : ℕ) (t : ℕ → Bool) → every n t ≡ true → (k : ℕ) → k < n → t k ≡ true
 unfolding every _and_
@@ -52,6 +52,19 @@ pub some-at : (n : ℕ) (t : ℕ → Bool) (k : ℕ) → k < n → t k ≡ true 
 unfolding some
 some-at n t k l e =
     ⊎-elim (λ a. absurd (true≢false (sym e ∙ not-true (t k) (every-at n _ a k l)))) (λ a. ap not a) (decided (every n (λ k. not (t k))))
+
+-- where it holds at some number below n, there is one at which it holds
+pub some-where : (n : ℕ) (t : ℕ → Bool) → some n t ≡ true → (k : ℕ) × (k < n) × (t k ≡ true)
+unfolding some
+some-where n t e = let (k, l, d) = every-fails n _ (not-true _ e) in (k, l, not-false _ d)
+
+pub some-none : (n : ℕ) (t : ℕ → Bool) → ((k : ℕ) → k < n → t k ≡ false) → some n t ≡ false
+unfolding some
+some-none n t h = ap not (every-all n (λ k l. ap not (h k l)))
+
+pub some-before : (n : ℕ) (t : ℕ → Bool) → t n ≡ false → some (suc n) t ≡ some n t
+unfolding some every
+some-before n t e = ap not (ap (λ (b : Bool). every n (λ k. not (t k)) and not b) e ∙ and-true _)
 
 -- index k t is k where the test fails at every number below k: one number more, and the first at which it holds
 index-past : (n m k : ℕ) (t : ℕ → Bool) → index (suc k) t ≡ suc k

@@ -44,6 +44,17 @@ unfolding _orElse_
 orElse-rest zero b e = e
 orElse-rest (suc a) b e = absurd (suc-ne-zero a e)
 
+-- what comes after a line counts only where the line is not met
+pub orElse-under : (a : ℕ) {b c : ℕ} → (a ≡ 0 → b ≡ c) → a orElse b ≡ a orElse c
+unfolding _orElse_
+orElse-under zero h = h refl
+orElse-under (suc a) h = refl
+
+pub orElse-none : (a : ℕ) → a orElse 0 ≡ a
+unfolding _orElse_
+orElse-none zero = refl
+orElse-none (suc a) = refl
+
 pub not-met : (number : ℕ) {c : Bool} → c ≡ false → number when c ≡ 0
 unfolding _when_
 not-met number e = ap (λ (c : Bool). number when c) e

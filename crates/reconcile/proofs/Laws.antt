@@ -1,0 +1,102 @@
+-- The laws of the four counts, for any two lists of tickets: each list's tickets are counted once, exchanging the lists exchanges the last two counts, and a
+-- list against itself is all alike.
+-- Assumes nothing.
+use Prim.Native.Nat.{ℕ, suc, _+_, _<_, suc-le-suc}
+use native.Mathlib.Omega.{arith}
+use mathlib.Core.Path.{_≡_, refl, ap, ap₂, sym, _∙_}
+use mathlib.Core.Bool.{Bool, true, false, not}
+use mathlib.Core.List.{List}
+use lib.ListN.{length}
+use lib.Dec.{eqb}
+use borrow.Author.Tests.{eqb-true, eq-eqb}
+use Rattle.rules.specs.Loops.{_and_, oneIf, count}
+use Rattle.rules.proofs.Loops.Logic.{same, and-left, and-right, and-both, and-swap}
+use Rattle.rules.proofs.Loops.Every.{some-at, some-where}
+use Rattle.rules.proofs.Loops.Counts.{count-cong, count-all, count-none, count-apart, count-along}
+use Rattle.ticket.specs.declared.Ticket.{Ticket}
+use Rattle.ticket.specs.Tickets.{numberLimit}
+use Rattle.reconcile.specs.declared.Reconciliation.{Reconciliation}
+use Rattle.reconcile.specs.Counts.{numbersWith, ticketAt, numberAt, sameTicket, has, shares, alike, differing, only, Listed}
+use Rattle.reconcile.specs.Lists.{reconciled, counted}
+use Rattle.reconcile.proofs.SameTicket.{same-tickets, equal-tickets, same-exchanged}
+use Rattle.reconcile.proofs.Rising.{present, above, shared}
+
+-- the numbers of a rising list that have a property: as many as there are tickets whose number has it
+pub along : {l : List Ticket} → Listed l → (t : ℕ → Bool) → numbersWith (λ x. has l x and t x) ≡ count (length l) (λ k. t (numberAt l k))
+unfolding has
+along {l} listed t = count-along (suc numberLimit) (numberAt l) t (length l) (λ k inside. suc-le-suc (listed .numbers k inside)) (above listed)
+
+module _ {l : List Ticket} (listed : Listed l) (m : List Ticket) where
+  pub alike-along : alike l m ≡ count (length l) (λ k. has m (numberAt l k) and shares l m (numberAt l k))
+  unfolding alike
+  alike-along = along listed _
+
+  pub differing-along : differing l m ≡ count (length l) (λ k. has m (numberAt l k) and not (shares l m (numberAt l k)))
+  unfolding differing
+  differing-along = along listed _
+
+  pub only-along : only l m ≡ count (length l) (λ k. not (has m (numberAt l k)))
+  unfolding only
+  only-along = along listed _
+
+  -- alike, differing and only there: each ticket of a list is one of the three
+  pub first-adds-up : alike l m + differing l m + only l m ≡ length l
+  unfolding _and_
+  first-adds-up =
+      let n = length l in
+      let both : ℕ → Bool = λ k. has m (numberAt l k) in
+      let same : ℕ → Bool = λ k. shares l m (numberAt l k) in
+      ap₂ _+_ (ap₂ _+_ alike-along differing-along) only-along
+      ∙ ap (λ (c : ℕ). c + count n (λ k. not (both k))) (sym (count-apart n both _ _ (λ k. halves (both k) (same k))))
+      ∙ sym (count-apart n (λ k. true) both _ (λ k. whole (both k)))
+      ∙ count-all n
+    where
+      halves : (a b : Bool) → oneIf a ≡ oneIf (a and b) + oneIf (a and not b)
+      halves true true = refl
+      halves true false = refl
+      halves false b = refl
+
+      whole : (a : Bool) → 1 ≡ oneIf a + oneIf (not a)
+      whole true = refl
+      whole false = refl
+
+-- a ticket that the first list shares with the second, the second shares with the first
+shares-back : (l m : List Ticket) (x : ℕ) → shares l m x ≡ true → shares m l x ≡ true
+unfolding shares
+shares-back l m x s =
+    let (j, j-in, s′) = some-where (length l) _ s in
+    let (k, k-in, both) = some-where (length m) _ s′ in
+    let number = eqb-true _ _ (and-left _ _ both) in
+    let alike = and-right _ _ both in
+    some-at (length m) _ k k-in
+    (some-at (length l) _ j j-in
+    (and-both (eq-eqb (numberAt m k) x (sym (ap (λ (t : Ticket). t .number) (same-tickets _ _ alike)) ∙ number)) (same-exchanged _ _ ∙ alike)))
+
+-- with the lists exchanged the last two counts change places
+abbrev pub exchanged : Reconciliation → Reconciliation
+exchanged r = reconciled (r .answer) (r .alike) (r .differing) (r .«only_desk») (r .«only_bridge»)
+
+pub lists-exchanged : (l m : List Ticket) → counted m l ≡ exchanged (counted l m)
+unfolding counted alike differing
+lists-exchanged l m =
+    let shared-both : (x : ℕ) → shares m l x ≡ shares l m x = λ x. same _ _ (shares-back m l x) (shares-back l m x) in
+    ap₂ (λ (a d : ℕ). reconciled 0 a d (only m l) (only l m))
+    (count-cong (suc numberLimit) (λ x _. and-swap (has m x) (has l x) _ ∙ ap (λ (s : Bool). has l x and has m x and s) (shared-both x)))
+    (count-cong (suc numberLimit) (λ x _. and-swap (has m x) (has l x) _ ∙ ap (λ (s : Bool). has l x and has m x and not s) (shared-both x)))
+
+-- so each ticket of the second list is alike, differing or only there
+pub second-adds-up : (l : List Ticket) {m : List Ticket} → Listed m → alike l m + differing l m + only m l ≡ length m
+unfolding counted
+second-adds-up l {m} listed =
+    let swapped = lists-exchanged m l in
+    ap₂ (λ (a d : ℕ). a + d + only m l) (ap (λ (r : Reconciliation). r .alike) swapped) (ap (λ (r : Reconciliation). r .differing) swapped) ∙ first-adds-up listed l
+
+-- a list against itself is all alike
+pub against-itself : {l : List Ticket} → Listed l → counted l l ≡ reconciled 0 (length l) 0 0 0
+unfolding counted _and_
+against-itself {l} listed =
+    let shared-all : (k : ℕ) → k < length l → shares l l (numberAt l k) ≡ true = λ k inside. shared listed listed k k inside inside refl ∙ equal-tickets (ticketAt l k) _ refl in
+    let alone : only l l ≡ 0 = only-along listed l ∙ count-cong (length l) (λ k inside. ap not (present l k inside)) ∙ count-none (length l) in
+    let no-other : differing l l ≡ 0 =
+    differing-along listed l ∙ count-cong (length l) (λ k inside. ap₂ (λ (a b : Bool). a and not b) (present l k inside) (shared-all k inside)) ∙ count-none (length l) in
+    rw (alone, no-other) (ap (λ (a : ℕ). reconciled 0 a 0 0 0) (omega (arith, first-adds-up listed l, alone, no-other)))
