@@ -4,8 +4,8 @@
  * Every function answers with a refusal's number, or with PIT_DONE. The first refusal in the order that stands at a function is
  * given. A refused call leaves all that it was lent as it was.
  *
- * A book, a list, a row or a ticket goes in as a pointer and its length. Lengths of books, rows and tickets count bytes, all others
- * count numbers.
+ * A book, a list, a row or a ticket goes in as a pointer and its length. Lengths of books, rows, tickets and lists of tickets count
+ * bytes, all others count numbers.
  *
  * What the caller owes:
  * - no pointer is NULL, not even where the length is 0: any address that is aligned for its type will do then;
@@ -30,7 +30,7 @@ enum pit_refusal {
     PIT_DONE = 0,                /* no refusal */
     PIT_BOOK_SHORT = 1,          /* fewer than 4 bytes */
     PIT_HEAD_WRONG = 2,          /* head wrong; number of desks or piles out of range */
-    PIT_LENGTH_WRONG = 3,        /* length not as the head, the sizes, the record or the ticket want it */
+    PIT_LENGTH_WRONG = 3,        /* length not as the head, the sizes, the record, the ticket or a list of tickets want it */
     PIT_CONTENTS_WRONG = 4,      /* pile number or position wrong, or numbers not rising */
     PIT_OPENING_UNLAWFUL = 5,    /* opening unlawful, or an unused share not 0 */
     PIT_TALLY_WRONG = 6,         /* tally over its limit, a give to oneself, or an unused place not 0 */
@@ -54,7 +54,9 @@ enum pit_refusal {
     PIT_OWN_ROW_BEHIND = 32,     /* the copy has a later row of the taker's own desk */
     PIT_DIGITS_WRONG = 33,       /* a packed digit above 9; in writing, a ticket's number over PIT_TICKET_NUMBER_LIMIT */
     PIT_TICKET_PILE_WRONG = 34,  /* a ticket's pile 0 or over 65,535 */
-    PIT_KIND_OR_DESK_WRONG = 35  /* a ticket's kind not PIT_TICKET_TIP or PIT_TICKET_DRAW, or its desk above 7 */
+    PIT_KIND_OR_DESK_WRONG = 35, /* a ticket's kind not PIT_TICKET_TIP or PIT_TICKET_DRAW, or its desk above 7 */
+    PIT_BRIDGE_NOT_RISING = 36,  /* the ticket numbers of the bridge's list do not rise strictly */
+    PIT_DESK_NOT_RISING = 37     /* those of the desk's list do not */
 };
 
 /* What pit_later answers. */
@@ -86,6 +88,9 @@ enum pit_ticket_kind {
 /* Bytes of a weighbridge ticket, and the highest number of one. */
 #define PIT_TICKET_LENGTH 11
 #define PIT_TICKET_NUMBER_LIMIT 99999999
+
+/* The most tickets of a list. */
+#define PIT_TICKET_LIST_LIMIT 4096
 
 /* Numbers of the list that opens a book. */
 #define PIT_LIST_NUMBERS(desks, piles) ((size_t)(piles) * (3 + (size_t)2 * (size_t)(desks)))
@@ -207,6 +212,18 @@ uint8_t pit_read_ticket(const uint8_t *bytes, size_t length, uint32_t *number, u
  * shorter than PIT_TICKET_LENGTH, or 0.
  */
 uint8_t pit_write_ticket(uint32_t number, uint32_t pile, uint32_t tonnes, uint8_t kind, uint8_t desk, uint8_t *out, size_t out_length);
+
+/*
+ * Compares the bridge's list of tickets with the desk's own. A list is its tickets one behind the other, at most
+ * PIT_TICKET_LIST_LIMIT of them, rising strictly by ticket number. Each count is a number of ticket numbers: those that both lists
+ * have with the same ticket, those that both have with tickets that differ, those that the bridge's list alone has, and those that
+ * the desk's alone has.
+ * Answers 3 where a length is no multiple of PIT_TICKET_LENGTH or a list has more tickets; then what pit_read_ticket answers of the
+ * bridge's tickets, in list order, then of the desk's; then 36 and 37 where the bridge's numbers and the desk's do not rise; or 0. What
+ * is lent for the counts stays where it is not 0.
+ */
+uint8_t pit_reconcile(const uint8_t *bridge, size_t bridge_length, const uint8_t *desk, size_t desk_length, uint32_t *alike,
+                      uint32_t *differing, uint32_t *only_bridge, uint32_t *only_desk);
 
 #ifdef __cplusplus
 }

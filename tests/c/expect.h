@@ -48,6 +48,7 @@ void body_lengths(void);
 void records(void);
 void later_rows(void);
 void tickets(void);
+void reconciliations(void);
 void shortest_and_longest(void);
 
 #endif

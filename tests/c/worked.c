@@ -142,6 +142,7 @@ int main(void)
     records();
     later_rows();
     tickets();
+    reconciliations();
     shortest_and_longest();
     return 0;
 }

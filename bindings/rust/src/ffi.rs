@@ -147,4 +147,15 @@ unsafe extern "C" {
         out: *mut u8,
         out_length: usize,
     ) -> u8;
+
+    pub(crate) fn pit_reconcile(
+        bridge: *const u8,
+        bridge_length: usize,
+        desk: *const u8,
+        desk_length: usize,
+        alike: *mut u32,
+        differing: *mut u32,
+        only_bridge: *mut u32,
+        only_desk: *mut u32,
+    ) -> u8;
 }

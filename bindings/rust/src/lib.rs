@@ -5,7 +5,8 @@
 //! only rights that it holds: draw rights guard the floor, tip rights the top.
 //!
 //! [`Opening`] makes a book, [`Book`] is one over a caller's bytes, with its queries, the four acts and the take, [`Record`] is a pile of it
-//! by value, [`Ticket`] is a load's record from the weighbridge, and [`Refusal`] says why a call was refused. [`raw`] has the functions of the static library, which is proved to answer as
+//! by value, [`Ticket`] is a load's record from the weighbridge, [`reconcile`] compares
+//! two lists of them, and [`Refusal`] says why a call was refused. [`raw`] has the functions of the static library, which is proved to answer as
 //! document 01 has it.
 //!
 //! ```
@@ -40,6 +41,7 @@ mod limits;
 mod opening;
 #[allow(unsafe_code)]
 pub mod raw;
+mod reconcile;
 mod record;
 mod refusal;
 mod rows;
@@ -52,6 +54,7 @@ pub use limits::{
     row_length,
 };
 pub use opening::Opening;
+pub use reconcile::{Reconciliation, reconcile};
 pub use record::{Record, Row};
 pub use refusal::Refusal;
 pub use rows::later_row;

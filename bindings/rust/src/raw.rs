@@ -202,3 +202,29 @@ pub fn write_ticket(number: u32, pile: u32, tonnes: u32, kind: u8, desk: u8, out
         )
     }
 }
+
+/// Compares the bridge's list of tickets with the desk's, and counts ticket numbers: alike in both, differing, only at the bridge, only
+/// at the desk. Refused with 3 for a length, then with each ticket's own refusal, the bridge's list first, then with 36 and 37 where
+/// the bridge's numbers and the desk's do not rise; and then all four counts stay.
+pub fn reconcile(
+    bridge: &[u8],
+    desk: &[u8],
+    alike: &mut u32,
+    differing: &mut u32,
+    only_bridge: &mut u32,
+    only_desk: &mut u32,
+) -> u8 {
+    // SAFETY: the references lend all that the call reads and writes; see the top.
+    unsafe {
+        ffi::pit_reconcile(
+            bridge.as_ptr(),
+            bridge.len(),
+            desk.as_ptr(),
+            desk.len(),
+            alike,
+            differing,
+            only_bridge,
+            only_desk,
+        )
+    }
+}

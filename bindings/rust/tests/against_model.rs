@@ -17,11 +17,11 @@ use support::places::{LIBRARY, MODEL, PLACES};
 use support::{case, from_environment, judge, say, seed};
 
 /// Calls compared in all, if PITBOOK_CASES is not set.
-const CASES: u64 = 570_000;
+const CASES: u64 = 600_000;
 
-/// Document 01, "Refusals by place", and 3/12: the numbers that can come from a
+/// Document 01, "Refusals by place", 3/12 and 4/12: the numbers that can come from a
 /// place, 0 (done) first. Each must be reached.
-const EXPECTED: [(&str, &[u8]); 21] = [
+const EXPECTED: [(&str, &[u8]); 22] = [
     // "Opening: 2, 3, 4, 5, by pile. 8"
     ("open", &[0, 2, 3, 4, 5, 8]),
     // "Book bytes: 1 to 4", "Each body, in file order: 5 to 7"
@@ -72,6 +72,8 @@ const EXPECTED: [(&str, &[u8]); 21] = [
     ("read_ticket", &[0, 3, 33, 34, 13, 35]),
     // "Writing meets 8 last"
     ("write_ticket", &[0, 33, 34, 13, 35, 8]),
+    // 4/12: "3 comes first", "every ticket's own checks", "36 ... 37"
+    ("reconcile", &[0, 3, 33, 34, 13, 35, 36, 37]),
 ];
 
 /// How often each number was answered, by name of EXPECTED.
@@ -94,9 +96,10 @@ fn counted_as(case: &Case) -> &'static str {
     }
 }
 
-/// Rows and tickets are no books.
+/// Rows, tickets and lists of them are no books.
 fn has_a_book(place: Place) -> bool {
-    !matches!(place, Place::Later | Place::ReadTicket | Place::WriteTicket)
+    use Place::{Later, ReadTicket, Reconcile, WriteTicket};
+    !matches!(place, Later | ReadTicket | WriteTicket | Reconcile)
 }
 
 /// Compares this place's part of all cases.
@@ -256,4 +259,9 @@ fn read_ticket() {
 #[test]
 fn write_ticket() {
     compare(Place::WriteTicket);
+}
+
+#[test]
+fn reconcile() {
+    compare(Place::Reconcile);
 }

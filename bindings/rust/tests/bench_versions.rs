@@ -24,13 +24,17 @@ struct Lent {
     number: u32,
     numbers: Vec<u32>,
     ticket: ([u32; 3], [u8; 2]),
+    counts: [u32; 4],
 }
 
 /// What is lent for a ticket's fields, which no ticket has.
 const NO_TICKET: ([u32; 3], [u8; 2]) = ([u32::MAX; 3], [u8::MAX; 2]);
 
+/// What is lent for the counts of two lists.
+const NO_COUNTS: [u32; 4] = [u32::MAX; 4];
+
 /// The answers seen, by function.
-type Seen = BTreeMap<&'static str, [u32; 36]>;
+type Seen = BTreeMap<&'static str, [u32; 38]>;
 
 /// Makes the call with each version and compares.
 fn compare(
@@ -53,7 +57,7 @@ fn compare(
         equal,
         "{function}, case {case}: {answers:?} or what was lent"
     );
-    seen.entry(function).or_insert([0; 36])[usize::from(plain.0)] += 1;
+    seen.entry(function).or_insert([0; 38])[usize::from(plain.0)] += 1;
 }
 
 fn compare_all(seen: &mut Seen, k: usize, case: Case) {
@@ -76,6 +80,7 @@ fn compare_all(seen: &mut Seen, k: usize, case: Case) {
         number: 0xaaaa_aaaa,
         numbers: vec![0xaaaa_aaaa; lent_numbers],
         ticket: NO_TICKET,
+        counts: NO_COUNTS,
     };
     let mut compare = |function, call: &dyn Fn(&Version, &mut Lent) -> u8| {
         compare(seen, k, function, &lent, call);
@@ -153,6 +158,7 @@ fn compare_tickets(seen: &mut Seen, k: usize, random: &mut Random) {
         number: 0,
         numbers: Vec::new(),
         ticket: NO_TICKET,
+        counts: NO_COUNTS,
     };
     compare(seen, k, "ticket read", &lent, |v, l| {
         let ([number, pile, tonnes], [kind, desk]) = &mut l.ticket;
@@ -166,8 +172,47 @@ fn compare_tickets(seen: &mut Seen, k: usize, random: &mut Random) {
     });
 }
 
+/// A list of up to eight tickets, most often lawful and rising by small steps.
+fn list(random: &mut Random) -> Vec<u8> {
+    let mut list = Vec::new();
+    let mut number = random.below(4) as u32;
+    for _ in 0..random.below(9) {
+        let mut ticket = [0; 11];
+        let tonnes = 30 + u32::from(random.below(4) == 0);
+        assert_eq!(plain::write_ticket(number, 7, tonnes, 1, 0, &mut ticket), 0);
+        list.extend(ticket);
+        number += u32::from(random.below(40) != 0) * (1 + random.below(2) as u32);
+    }
+    match random.below(24) {
+        0 => list.truncate(random.below(list.len() + 1)),
+        1 => list.push(0),
+        2 => list.resize(11 * (4_095 + random.below(3)), 0),
+        3..=8 if !list.is_empty() => {
+            let at = random.below(list.len());
+            list[at] = random.below(256) as u8;
+        }
+        _ => {}
+    }
+    list
+}
+
+fn compare_lists(seen: &mut Seen, k: usize, random: &mut Random) {
+    let (bridge, desk) = (list(random), list(random));
+    let lent = Lent {
+        book: bridge,
+        number: 0,
+        numbers: Vec::new(),
+        ticket: NO_TICKET,
+        counts: NO_COUNTS,
+    };
+    compare(seen, k, "reconcile", &lent, |v, l| {
+        let [alike, differing, only_bridge, only_desk] = &mut l.counts;
+        (v.reconcile)(&l.book, &desk, alike, differing, only_bridge, only_desk)
+    });
+}
+
 /// Every answer of the table, so that no refusal goes without a comparison.
-const ANSWERS: [(&str, &[u8]); 16] = [
+const ANSWERS: [(&str, &[u8]); 17] = [
     ("check", &[0, 1, 2, 3, 4, 5, 6, 7]),
     ("tip", &[0, 1, 2, 3, 4, 5, 6, 7, 10, 11, 13, 14, 15]),
     ("draw", &[0, 1, 2, 3, 4, 5, 6, 7, 10, 11, 13, 14, 15]),
@@ -195,6 +240,7 @@ const ANSWERS: [(&str, &[u8]); 16] = [
     ("open", &[0, 2, 3, 4, 5, 8]),
     ("ticket read", &[0, 3, 13, 33, 34, 35]),
     ("ticket written", &[0, 8, 13, 33, 34, 35]),
+    ("reconcile", &[0, 3, 13, 33, 34, 35, 36, 37]),
 ];
 
 #[test]
@@ -205,10 +251,11 @@ fn all_agree_on_random_books() {
     for k in 0..CASES {
         compare_all(&mut seen, k, Case::new(&mut random));
         compare_tickets(&mut seen, k, &mut random);
+        compare_lists(&mut seen, k, &mut random);
     }
     for (function, answers) in ANSWERS {
         let counts = seen[function];
-        let given: Vec<_> = (0..36).filter(|&a| counts[a] > 0).collect();
+        let given: Vec<_> = (0..counts.len()).filter(|&a| counts[a] > 0).collect();
         println!(
             "{function}: {:?}",
             given.iter().map(|&a| (a, counts[a])).collect::<Vec<_>>()

@@ -19,6 +19,8 @@ pub struct Lent {
     pub record: [u32; 163],
     /// A ticket's number, pile and tonnes; its kind and desk.
     pub ticket: ([u32; 3], [u8; 2]),
+    /// Tickets alike, differing, only at the bridge, only at the desk.
+    pub counts: [u32; 4],
 }
 
 /// Nanoseconds a call.

@@ -64,6 +64,7 @@ impl Pass {
             number: u32::MAX,
             record: [u32::MAX; 163],
             ticket: ([u32::MAX; 3], [u8::MAX; 2]),
+            counts: [u32::MAX; 4],
         };
         match self {
             Pass::Agree => agree(name, book, lent, changes, answer, call),
@@ -160,6 +161,44 @@ fn tickets(pass: &Pass) {
     });
 }
 
+/// Lists of `count` tickets, the bridge's and the desk's: of eight numbers the
+/// bridge lacks one, the desk another, and of a third they differ.
+fn lists(count: u32) -> [Vec<u8>; 2] {
+    let written = |number: u32, tonnes| {
+        let mut ticket = [0; 11];
+        let answer = plain::write_ticket(number, 4_321, tonnes, 1, 5, &mut ticket);
+        assert_eq!(answer, 0);
+        ticket
+    };
+    let all = || (0..).filter(|number| number % 8 != 3);
+    let bridge = all()
+        .take(count as usize)
+        .map(|number| written(12_300_000 + number, 30));
+    let all = || (0..).filter(|number| number % 8 != 6);
+    let desk = all()
+        .take(count as usize)
+        .map(|number| written(12_300_000 + number, 30 + u32::from(number % 8 == 5)));
+    [bridge.flatten().collect(), desk.flatten().collect()]
+}
+
+fn reconciliations(pass: &Pass) {
+    for count in [1, 64, 4_096] {
+        let [mut bridge, desk] = lists(count);
+        let call = |v: &Version, bridge: &mut [u8], lent: &mut Lent| {
+            let [alike, differing, only_bridge, only_desk] = &mut lent.counts;
+            (v.reconcile)(bridge, &desk, alike, differing, only_bridge, only_desk)
+        };
+        let name = format!("reconcile {count} and {count}");
+        pass.named(&name, &bridge, false, 0, call);
+        if count > 1 {
+            let last = bridge.len() - 11;
+            bridge.copy_within(..11, last);
+            let name = format!("{name}, refused");
+            pass.named(&name, &bridge, false, 36, call);
+        }
+    }
+}
+
 fn line(name: &str, length: usize, timings: Timings) {
     let cell = |timing: &Timing| {
         let spread = format!("({:.0} %)", 100.0 * timing.spread);
@@ -181,6 +220,7 @@ fn main() {
         cases(&Pass::Agree, size);
     }
     tickets(&Pass::Agree);
+    reconciliations(&Pass::Agree);
     println!("All three versions agree on the prepared inputs.\n");
     if cfg!(debug_assertions) {
         println!("Not timed: this is not a release build.");
@@ -200,4 +240,5 @@ fn main() {
         cases(&pass, size);
     }
     tickets(&pass);
+    reconciliations(&pass);
 }

@@ -1,5 +1,8 @@
 //! The library and the two versions of the same functions, side by side.
 
+/// Two lists of tickets, and the four counts.
+type Reconcile = fn(&[u8], &[u8], &mut u32, &mut u32, &mut u32, &mut u32) -> u8;
+
 /// Function pointers, so that none of the three is inlined into the caller
 /// and each pays the same for a call.
 // The bench times some of these; the test calls them all.
@@ -22,6 +25,7 @@ pub struct Version {
     pub store: fn(&mut [u8], u16, &[u32]) -> u8,
     pub read_ticket: fn(&[u8], &mut u32, &mut u32, &mut u32, &mut u8, &mut u8) -> u8,
     pub write_ticket: fn(u32, u32, u32, u8, u8, &mut [u8]) -> u8,
+    pub reconcile: Reconcile,
 }
 
 macro_rules! version {
@@ -44,6 +48,7 @@ macro_rules! version {
             store: $functions::store,
             read_ticket: $functions::read_ticket,
             write_ticket: $functions::write_ticket,
+            reconcile: $functions::reconcile,
         }
     };
 }

@@ -3,6 +3,7 @@
 mod opening;
 mod parts;
 mod raw;
+mod reconcile;
 mod refusals;
 mod takes;
 mod tickets;

@@ -8,7 +8,7 @@ fn numbers_go_round() {
     let table: Vec<u8> = (1..=8)
         .chain(10..=15)
         .chain(21..=27)
-        .chain(30..=35)
+        .chain(30..=37)
         .collect();
     let all: Vec<u8> = Refusal::ALL.iter().map(|r| r.number()).collect();
     assert_eq!(all, table);

@@ -8,6 +8,7 @@
 pub mod acts;
 pub mod book;
 pub mod bytes;
+pub mod lists;
 pub mod record;
 pub mod tickets;
 #[cfg(test)]
@@ -378,4 +379,21 @@ pub fn write_ticket(number: u32, pile: u32, tonnes: u32, kind: u8, desk: u8, out
     }
     out[..printed.len()].copy_from_slice(&printed);
     0
+}
+
+pub fn reconcile(
+    bridge: &[u8],
+    desk: &[u8],
+    alike: &mut u32,
+    differing: &mut u32,
+    only_bridge: &mut u32,
+    only_desk: &mut u32,
+) -> u8 {
+    match lists::counts(bridge, desk) {
+        Ok(counts) => {
+            [*alike, *differing, *only_bridge, *only_desk] = counts;
+            0
+        }
+        Err(refusal) => refusal,
+    }
 }

@@ -231,3 +231,22 @@ fn ticket() {
     assert_eq!(read_ticket(&bytes, number, pile, tonnes, kind, desk), 0);
     assert_eq!(fields, ([12_345_678, 7, 30], [1, 0]));
 }
+
+/// Request 4/12: of two lists 1 number alike, 1 differing, 1 only at the
+/// bridge and 2 only at the desk.
+#[test]
+fn bridge_against_desk() {
+    let list = |loads: &[(u32, u32)]| {
+        let mut list = vec![0; 11 * loads.len()];
+        for (&(number, tonnes), out) in loads.iter().zip(list.chunks_mut(11)) {
+            assert_eq!(write_ticket(number, 7, tonnes, 1, 0, out), 0);
+        }
+        list
+    };
+    let bridge = list(&[(1, 30), (2, 28), (5, 31)]);
+    let desk = list(&[(2, 30), (5, 31), (6, 12), (9, 12)]);
+    let mut counts = [77; 4];
+    let [alike, differing, only_bridge, only_desk] = &mut counts;
+    let answer = reconcile(&bridge, &desk, alike, differing, only_bridge, only_desk);
+    assert_eq!((answer, counts), (0, [1, 1, 1, 2]));
+}

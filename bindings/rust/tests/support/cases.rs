@@ -5,6 +5,7 @@
 use super::chance::Chance;
 use super::damage;
 use super::lawful;
+use super::lists;
 use super::pairs;
 use super::places::{Case, Place};
 use super::records;
@@ -19,6 +20,7 @@ pub fn random(place: Place, chance: &mut Chance) -> Case {
         Place::Later => later(chance),
         Place::ReadTicket => tickets::read(chance),
         Place::WriteTicket => tickets::written(chance),
+        Place::Reconcile => lists::random(chance),
         _ => on_a_book(place, chance),
     }
 }

@@ -5,6 +5,7 @@ pub mod cases;
 pub mod chance;
 pub mod damage;
 pub mod lawful;
+pub mod lists;
 pub mod pairs;
 pub mod places;
 pub mod records;

@@ -23,9 +23,10 @@ pub enum Place {
     Later,
     ReadTicket,
     WriteTicket,
+    Reconcile,
 }
 
-pub const PLACES: [Place; 19] = [
+pub const PLACES: [Place; 20] = [
     Place::Open,
     Place::Check,
     Place::Contents,
@@ -45,6 +46,7 @@ pub const PLACES: [Place; 19] = [
     Place::Later,
     Place::ReadTicket,
     Place::WriteTicket,
+    Place::Reconcile,
 ];
 
 impl Place {
@@ -69,6 +71,7 @@ impl Place {
             Place::Later => "later",
             Place::ReadTicket => "read_ticket",
             Place::WriteTicket => "write_ticket",
+            Place::Reconcile => "reconcile",
         }
     }
 
@@ -81,13 +84,13 @@ impl Place {
 /// Everything lent to one call. What a place does not use is empty.
 #[derive(Clone, Debug, Default, PartialEq, Eq)]
 pub struct Lent {
-    /// The book (the taker's own, the one opened into), the first row, or the
-    /// bytes of a ticket.
+    /// The book (the taker's own, the one opened into), the first row, the
+    /// bytes of a ticket, or the bridge's list.
     pub book: Vec<u8>,
-    /// The copy, the second row, or a ticket's kind and desk.
+    /// The copy, the second row, a ticket's kind and desk, or the desk's list.
     pub copy: Vec<u8>,
     /// The opening's list, the contents' numbers, the record, the one number
-    /// of an answer, or a ticket's number, pile and tonnes.
+    /// of an answer, a ticket's number, pile and tonnes, or the four counts.
     pub numbers: Vec<u32>,
     /// The contents' positions.
     pub positions: Vec<u32>,
@@ -156,6 +159,9 @@ impl Case {
             Place::WriteTicket => {
                 format!("{:?}, {} bytes", self.ticket, self.lent.book.len())
             }
+            Place::Reconcile => {
+                format!("{:02x?} and {:02x?}", self.lent.book, self.lent.copy)
+            }
             _ => format!(
                 "desk {}, pile {}, receiver {}, amount {}, {} book bytes",
                 self.desk,
@@ -179,6 +185,8 @@ pub struct Slices<'a> {
 
 type Act = fn(&mut [u8], u8, u16, u32) -> u8;
 type Give = fn(&mut [u8], u8, u16, u8, u32) -> u8;
+/// Two lists, and the four counts.
+type Reconcile = fn(&[u8], &[u8], &mut u32, &mut u32, &mut u32, &mut u32) -> u8;
 /// Asked for a desk: its rights, and what it can be sure of.
 type OfDesk = fn(&[u8], u8, u16, &mut u32) -> u8;
 
@@ -203,6 +211,7 @@ pub struct Functions {
     pub later: fn(&[u8], &[u8]) -> u8,
     pub read_ticket: fn(&[u8], &mut u32, &mut u32, &mut u32, &mut u8, &mut u8) -> u8,
     pub write_ticket: fn(u32, u32, u32, u8, u8, &mut [u8]) -> u8,
+    pub reconcile: Reconcile,
 }
 
 macro_rules! functions_of {
@@ -227,6 +236,7 @@ macro_rules! functions_of {
             later: $($module)::+::later,
             read_ticket: $($module)::+::read_ticket,
             write_ticket: $($module)::+::write_ticket,
+            reconcile: $($module)::+::reconcile,
         }
     };
 }
@@ -279,6 +289,12 @@ impl Functions {
             Place::WriteTicket => {
                 let t = case.ticket;
                 (self.write_ticket)(t.number, t.pile, t.tonnes, t.kind, t.desk, book)
+            }
+            Place::Reconcile => {
+                let [alike, differing, only_bridge, only_desk] = numbers else {
+                    panic!("there are four counts");
+                };
+                (self.reconcile)(book, copy, alike, differing, only_bridge, only_desk)
             }
         }
     }

@@ -34,27 +34,50 @@ fn random(chance: &mut Chance) -> Ticket {
     }
 }
 
-/// Bytes to be read, and five numbers lent for what they say.
-pub fn read(chance: &mut Chance) -> Case {
-    let ticket = random(chance);
-    let mut bytes = [
+/// The bytes of a random ticket. Fields that have not the digits for their
+/// value lose the high ones.
+fn bytes(ticket: &Ticket) -> Vec<u8> {
+    [
         packed(ticket.number, 4),
         packed(ticket.pile % 1_000_000, 3),
         packed(ticket.tonnes % 10_000, 2),
         vec![ticket.kind, ticket.desk],
     ]
-    .concat();
+    .concat()
+}
+
+/// Digits above 9, in any nibble of the packed fields.
+fn digits_above_9(chance: &mut Chance, bytes: &mut [u8]) {
+    for _ in 0..=chance.below(3) {
+        let (at, digit) = (chance.below(9), 10 + chance.below(6) as u8);
+        bytes[at] = match chance.below(2) {
+            0 => digit << 4 | bytes[at] & 15,
+            _ => bytes[at] & 0xf0 | digit,
+        };
+    }
+}
+
+/// Another ticket in place of a lawful one, often with something wrong in it.
+pub fn damaged(chance: &mut Chance, ticket: &[u8]) -> Vec<u8> {
+    let mut damaged = ticket.to_vec();
     match chance.below(8) {
-        // Digits above 9, in any nibble of the packed fields.
-        0 => {
-            for _ in 0..=chance.below(3) {
-                let (at, digit) = (chance.below(9), 10 + chance.below(6) as u8);
-                bytes[at] = match chance.below(2) {
-                    0 => digit << 4 | bytes[at] & 15,
-                    _ => bytes[at] & 0xf0 | digit,
-                };
-            }
-        }
+        0 => damaged = chance.bytes(11),
+        1 => digits_above_9(chance, &mut damaged),
+        2 => damaged[chance.below(11)] = chance.number() as u8,
+        3 => damaged[4..7].fill(0),
+        4 => damaged[7..9].fill(0),
+        5 => damaged[9] = chance.pick(&[0, 3, 255]),
+        6 => damaged[10] = chance.pick(&[8, 255]),
+        _ => damaged = bytes(&random(chance)),
+    }
+    damaged
+}
+
+/// Bytes to be read, and five numbers lent for what they say.
+pub fn read(chance: &mut Chance) -> Case {
+    let mut bytes = bytes(&random(chance));
+    match chance.below(8) {
+        0 => digits_above_9(chance, &mut bytes),
         1 => match chance.below(4) {
             0 => bytes.truncate(chance.below(11)),
             1 => bytes.extend(vec![0; 1 + chance.below(11)]),
