@@ -25,10 +25,10 @@ test: listings test-c test-rust
 	$(RT) fmt --check
 	$(RT) ci
 
-# Proves the rules, the tickets and the lister, shows the cases that a theorem each says hold, and lists the worked book G.
-CASES = crates/rules/proofs/Cases/Letters.antt crates/rules/proofs/Cases/Places.antt crates/ticket/proofs/Cases.antt
+# Proves the rules, the tickets and their lists, and the lister, shows the cases that a theorem each says hold, and lists the worked book G.
+CASES = crates/rules/proofs/Cases/Letters.antt crates/rules/proofs/Cases/Places.antt crates/ticket/proofs/Cases.antt crates/reconcile/proofs/Cases.antt
 run:
-	@$(RT) check rules ticket lister
+	@$(RT) check rules ticket reconcile lister
 	@sed -n 's/^.*case "\(.*\)".*$$/holds: \1/p' $(CASES)
 	@target/bin/lister <crates/lister/stdin
 

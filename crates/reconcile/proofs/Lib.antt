@@ -6,3 +6,4 @@ pub mod Readings
 pub mod Cursors
 pub mod Steps
 pub mod Reconciled
+pub mod Cases
