@@ -1,4 +1,4 @@
--- What the walk over two lists of tickets holds: at each list a cursor.
+-- What the functions inside the crate promise of the walk over two lists of tickets: at each list it has a cursor.
 -- Assumes nothing.
 use Prim.Native.Nat.{ℕ, suc, _+_, _*_, _/_, _%_, _≤_, _<_}
 use mathlib.Core.Path.{_≡_}

@@ -35,7 +35,8 @@ fn same_ticket(t: Ticket, u: Ticket) -> bool
     t.kind == u.kind && t.desk == u.desk
 }
 
-// The end of a list is above every number, so that the rest of the other list goes the same way.
+// The end of a list is above every number, so that the rest of the other list goes the same way. A refused ticket stands there as number 0 and is passed at
+// once: its list is walked to the end all the same, since what comes first is told only there, and the counts are then not handed back.
 pub(crate) fn step(bridge: &[u8], desk: &[u8], walk: Walk) -> Walk
     requires { ⌜ Walked (now bridge) (now desk) walk ⌝ }
     requires { ⌜ walk .bridge .at + walk .desk .at < length (now bridge) + length (now desk) ⌝ }
