@@ -21,7 +21,7 @@ use Rattle.reconcile.specs.declared.walk.Walk.{Walk}
 use Rattle.reconcile.specs.Counts.{alike, differing, only, rising}
 use Rattle.reconcile.specs.Lists.{listLimit, ticketsIn, ticketsOf, lengthWrong, ticketsAnswer, reconcileAnswer, reconciled, counted, reconciliation}
 use Rattle.reconcile.specs.Walk.{cursorAt, Standing, Sound, Passed, Side, Walked}
-use Rattle.reconcile.proofs.Laws.{alike-along, differing-along, only-along}
+use Rattle.reconcile.proofs.Laws.{alike-along, differing-along, only-along, first-adds-up, second-adds-up}
 use Rattle.reconcile.proofs.Readings.{tickets-length, all-asked, all-rise, sound-listed}
 use Rattle.reconcile.proofs.Cursors.{at-ticket}
 use Rattle.reconcile.proofs.Steps.{asWalk}
@@ -111,6 +111,15 @@ unfolding reconciliation counted
 answer-told b d =
     by-cases (ℕ-discrete (reconcileAnswer b d) 0) (λ e. ap (λ (r : Reconciliation). r .answer) (when-accepted _ _ _ e) ∙ sym e)
     (λ refused. ap (λ (r : Reconciliation). r .answer) (when-refused _ _ _ refused))
+
+-- so the laws of the counts are laws of what is handed back: each list's tickets are counted once
+pub counts-add-up : (b d : List ℕ) → reconcileAnswer b d ≡ 0 → let r = reconciliation b d in
+    (r .alike + r .differing + r .«only_bridge» ≡ ticketsIn b) × (r .alike + r .differing + r .«only_desk» ≡ ticketsIn d)
+unfolding reconciliation counted
+counts-add-up b d e =
+    let (sound, sound′) = sound-both b d e in
+    rw (when-accepted _ (counted (ticketsOf b) (ticketsOf d)) _ e)
+    (first-adds-up (sound-listed b sound) _ ∙ tickets-length b, second-adds-up _ (sound-listed d sound′) ∙ tickets-length d)
 
 pub length-refused : (b d : List ℕ) → lengthWrong b or lengthWrong d ≡ true → 3 ≡ reconcileAnswer b d
 unfolding reconcileAnswer _when_ _orElse_
