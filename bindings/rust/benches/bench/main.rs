@@ -49,7 +49,7 @@ impl Pass {
         self.named(&name, book, changes, answer, call);
     }
 
-    /// A case: its name, its book or ticket, whether it changes those bytes,
+    /// A case: its name, its book, ticket or lists, whether it changes those bytes,
     /// the answer it has to give, and the call.
     fn named(
         &self,
@@ -161,40 +161,36 @@ fn tickets(pass: &Pass) {
     });
 }
 
-/// Lists of `count` tickets, the bridge's and the desk's: of eight numbers the
-/// bridge lacks one, the desk another, and of a third they differ.
-fn lists(count: u32) -> [Vec<u8>; 2] {
-    let written = |number: u32, tonnes| {
+/// So many tickets, with numbers that rise but leave out one of eight, and of
+/// another one of eight with a tonne more or not.
+fn list(count: usize, left_out: u32, more: u32) -> Vec<u8> {
+    let numbers = (0..).filter(|number| number % 8 != left_out);
+    let written = |number: u32| {
+        let tonnes = if number % 8 == 5 { 30 + more } else { 30 };
         let mut ticket = [0; 11];
-        let answer = plain::write_ticket(number, 4_321, tonnes, 1, 5, &mut ticket);
+        let answer = plain::write_ticket(12_300_000 + number, 4_321, tonnes, 1, 5, &mut ticket);
         assert_eq!(answer, 0);
         ticket
     };
-    let all = || (0..).filter(|number| number % 8 != 3);
-    let bridge = all()
-        .take(count as usize)
-        .map(|number| written(12_300_000 + number, 30));
-    let all = || (0..).filter(|number| number % 8 != 6);
-    let desk = all()
-        .take(count as usize)
-        .map(|number| written(12_300_000 + number, 30 + u32::from(number % 8 == 5)));
-    [bridge.flatten().collect(), desk.flatten().collect()]
+    numbers.take(count).flat_map(written).collect()
 }
 
+/// The bridge's list and then the desk's, in one buffer; then the same with the
+/// bridge's first ticket in place of its last.
 fn reconciliations(pass: &Pass) {
     for count in [1, 64, 4_096] {
-        let [mut bridge, desk] = lists(count);
-        let call = |v: &Version, bridge: &mut [u8], lent: &mut Lent| {
+        let middle = 11 * count;
+        let call = |v: &Version, lists: &mut [u8], lent: &mut Lent| {
+            let (bridge, desk) = lists.split_at(middle);
             let [alike, differing, only_bridge, only_desk] = &mut lent.counts;
-            (v.reconcile)(bridge, &desk, alike, differing, only_bridge, only_desk)
+            (v.reconcile)(bridge, desk, alike, differing, only_bridge, only_desk)
         };
-        let name = format!("reconcile {count} and {count}");
-        pass.named(&name, &bridge, false, 0, call);
+        let mut lists = [list(count, 3, 0), list(count, 6, 1)].concat();
+        let name = format!("reconcile {count}");
+        pass.named(&name, &lists, false, 0, call);
         if count > 1 {
-            let last = bridge.len() - 11;
-            bridge.copy_within(..11, last);
-            let name = format!("{name}, refused");
-            pass.named(&name, &bridge, false, 36, call);
+            lists.copy_within(..11, middle - 11);
+            pass.named(&format!("{name}, refused"), &lists, false, 36, call);
         }
     }
 }
@@ -233,7 +229,9 @@ fn main() {
         filter: filter.unwrap_or_default(),
     };
     println!("Nanoseconds a call, by desks × piles: median (interquartile range).");
-    println!("Ratios are medians over rounds; a byte is one of the book or the ticket.\n");
+    println!(
+        "Ratios are medians over rounds; a byte is one of the book, the ticket or both lists.\n"
+    );
     println!("| call | ours | plain | specialised | ours/plain | ours/specialised | ns a byte |");
     println!("|---|--:|--:|--:|--:|--:|--:|");
     for size in &SIZES {
