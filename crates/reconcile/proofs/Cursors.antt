@@ -4,7 +4,7 @@ use Prim.Native.Nat.{ℕ, suc, _+_, _*_, _/_, _%_, _≤_, _<_}
 use native.Mathlib.Decide.{decLt}
 use native.Mathlib.Numerals.{add-one}
 use native.Mathlib.Omega.{arith}
-use mathlib.Core.Path.{_≡_, refl, ap, ap₂, sym, _∙_}
+use mathlib.Core.Path.{_≡_, ap, ap₂, sym, _∙_}
 use mathlib.Core.Bool.{Bool, true}
 use mathlib.Core.Logic.{by-cases}
 use mathlib.Core.List.{List}
@@ -29,7 +29,7 @@ unfolding cursorAt first _orElse_ every
 started b e = ap (λ (r : Reading). asCursor 0 (r .answer) true (r .ticket)) e
 
 module _ {b : List ℕ} {c : Cursor} (s : Standing b c) where
-  pub at-ticket : c .at / ticketLength * ticketLength ≡ c .at
+  at-ticket : c .at / ticketLength * ticketLength ≡ c .at
   unfolding cursorAt
   at-ticket = sym (ap (λ (c : Cursor). c .at) (s .is-at))
 

@@ -7,7 +7,6 @@ use mathlib.Core.Path.{_≡_, refl, ap, ap₂, sym, _∙_}
 use mathlib.Core.Bool.{Bool, true, false, not}
 use mathlib.Core.List.{List}
 use lib.ListN.{length}
-use lib.Dec.{eqb}
 use borrow.Author.Tests.{eqb-true, eq-eqb}
 use Rattle.rules.specs.Loops.{_and_, oneIf, count}
 use Rattle.rules.proofs.Loops.Logic.{same, and-left, and-right, and-both, and-swap}
@@ -16,13 +15,13 @@ use Rattle.rules.proofs.Loops.Counts.{count-cong, count-all, count-none, count-
 use Rattle.ticket.specs.declared.Ticket.{Ticket}
 use Rattle.ticket.specs.Tickets.{numberLimit}
 use Rattle.reconcile.specs.declared.Reconciliation.{Reconciliation}
-use Rattle.reconcile.specs.Counts.{numbersWith, ticketAt, numberAt, sameTicket, has, shares, alike, differing, only, Listed}
+use Rattle.reconcile.specs.Counts.{numbersWith, ticketAt, numberAt, has, shares, alike, differing, only, Listed}
 use Rattle.reconcile.specs.Lists.{reconciled, counted}
-use Rattle.reconcile.proofs.SameTicket.{same-tickets, equal-tickets, same-exchanged}
+use Rattle.reconcile.proofs.SameTicket.{same-number, equal-tickets, same-exchanged}
 use Rattle.reconcile.proofs.Rising.{present, above, shared}
 
 -- the numbers of a rising list that have a property: as many as there are tickets whose number has it
-pub along : {l : List Ticket} → Listed l → (t : ℕ → Bool) → numbersWith (λ x. has l x and t x) ≡ count (length l) (λ k. t (numberAt l k))
+along : {l : List Ticket} → Listed l → (t : ℕ → Bool) → numbersWith (λ x. has l x and t x) ≡ count (length l) (λ k. t (numberAt l k))
 unfolding has
 along {l} listed t = count-along (suc numberLimit) (numberAt l) t (length l) (λ k inside. suc-le-suc (listed .numbers k inside)) (above listed)
 
@@ -70,7 +69,7 @@ shares-back l m x s =
     let alike = and-right _ _ both in
     some-at (length m) _ k k-in
     (some-at (length l) _ j j-in
-    (and-both (eq-eqb (numberAt m k) x (sym (ap (λ (t : Ticket). t .number) (same-tickets _ _ alike)) ∙ number)) (same-exchanged _ _ ∙ alike)))
+    (and-both (eq-eqb (numberAt m k) x (sym (same-number _ _ alike) ∙ number)) (same-exchanged _ _ ∙ alike)))
 
 -- with the lists exchanged the last two counts change places
 abbrev pub exchanged : Reconciliation → Reconciliation

@@ -1,3 +1,4 @@
+-- In the order in which to read them: no file cites a later one.
 pub mod SameTicket
 pub mod Rising
 pub mod Passing

@@ -1,8 +1,7 @@
 -- A step of the walk as one of the two lists has it: its own number is passed, or the other's, or one that both have.
 -- Assumes nothing.
-use Prim.Native.Nat.{ℕ, suc, _+_, _≤_, _<_}
-use native.Mathlib.Nat.{le-of-suc-le-suc, eq-or-lt-of-le}
-use native.Mathlib.Numerals.{add-one}
+use Prim.Native.Nat.{ℕ, _+_, _<_}
+use native.Mathlib.Nat.{eq-or-lt-of-le}
 use native.Mathlib.Omega.{arith}
 use mathlib.Core.Path.{_≡_, refl, ap, ap₂, sym, _∙_}
 use mathlib.Core.Bool.{Bool, true, false, cond, not}
@@ -13,14 +12,13 @@ use Rattle.rules.specs.Loops.{_and_, oneIf, count}
 use Rattle.rules.proofs.Loops.Logic.{and-left-holds, and-left-fails}
 use Rattle.rules.proofs.Loops.Counts.{count-next}
 use Rattle.ticket.specs.declared.Ticket.{Ticket}
-use Rattle.ticket.specs.Tickets.{numberLimit}
-use Rattle.reconcile.specs.Counts.{ticketAt, numberAt, sameTicket, has, shares, Listed}
+use Rattle.reconcile.specs.Counts.{ticketAt, numberAt, sameTicket, has, Listed}
 use Rattle.reconcile.specs.Walk.{nextNumber, Passed}
 use Rattle.reconcile.proofs.Rising.{present, next-inside, above, at-most-end, below-end, next-above, absent, shared}
 
 -- one place more, counted where the test holds there
-counted : {c : ℕ} (k : ℕ) (t : ℕ → Bool) (here : Bool) → c ≡ count k t → t k ≡ here → cond here (c + 1) c ≡ count (k + 1) t
-counted {c} k t here so-far e = sym (count-next k t ∙ ap₂ (λ (n : ℕ) (b : Bool). n + oneIf b) (sym so-far) e ∙ added here)
+count-here : {c : ℕ} (k : ℕ) (t : ℕ → Bool) (here : Bool) → c ≡ count k t → t k ≡ here → cond here (c + 1) c ≡ count (k + 1) t
+count-here {c} k t here so-far e = sym (count-next k t ∙ ap₂ (λ (n : ℕ) (b : Bool). n + oneIf b) (sym so-far) e ∙ added here)
   where
     added : (b : Bool) → c + oneIf b ≡ cond b (c + 1) c
     added true = refl
@@ -34,19 +32,19 @@ module _ {l m : List Ticket} (listed : Listed l) (listed′ : Listed m) {j k ali
   -- the own number is below the other's: it is in the own list alone
   pub pass-own : ((i : ℕ) → i < k → numberAt m i < nextNumber l j) → nextNumber l j < nextNumber m k → Passed l m (j + 1) k alike differing (only + 1)
   pass-own before less =
-      let here = next-inside l j (below-end listed j (omega (arith, at-most-end listed′ k))) in
+      let here = next-inside l j (below-end l j (omega (arith, at-most-end listed′ k))) in
       let not-there = absent listed′ k (numberAt l j) (λ i b. omega (arith, here, before i b)) (omega (arith, here)) in
       record {
         below = one-more (λ i. numberAt l i < nextNumber m k) j (p .below) (omega (arith, here));
-        alike-is = counted j _ false (p .alike-is) (and-left-fails not-there _);
-        differing-is = counted j _ false (p .differing-is) (and-left-fails not-there _);
-        only-is = counted j _ true (p .only-is) (ap not not-there);
+        alike-is = count-here j _ false (p .alike-is) (and-left-fails not-there _);
+        differing-is = count-here j _ false (p .differing-is) (and-left-fails not-there _);
+        only-is = count-here j _ true (p .only-is) (ap not not-there);
       }
 
   -- the other's number is below the own: nothing is to be counted here
   pub pass-other : nextNumber m k < nextNumber l j → Passed l m j (k + 1) alike differing only
   pass-other less =
-      let inside = below-end listed′ k (omega (arith, at-most-end listed j)) in
+      let inside = below-end m k (omega (arith, at-most-end listed j)) in
       record {
         below = λ i b. omega (arith, next-inside m k inside, p .below i b, next-above listed′ k (k + 1) (omega arith) inside);
         alike-is = p .alike-is;
@@ -66,7 +64,7 @@ module _ {l m : List Ticket} (listed : Listed l) (listed′ : Listed m) {j k ali
         below =
             one-more (λ i. numberAt l i < nextNumber m (k + 1)) j (λ i b. omega (arith, above listed i j b inside, number, above-it))
             (omega (arith, number, above-it));
-        alike-is = counted j _ same (p .alike-is) (ap₂ _and_ there shares-it ∙ sym (and-left-holds refl same));
-        differing-is = counted j _ (not same) (p .differing-is) (ap₂ (λ (a b : Bool). a and not b) there shares-it ∙ sym (and-left-holds refl (not same)));
-        only-is = counted j _ false (p .only-is) (ap not there);
+        alike-is = count-here j _ same (p .alike-is) (ap₂ _and_ there shares-it ∙ sym (and-left-holds refl same));
+        differing-is = count-here j _ (not same) (p .differing-is) (ap₂ (λ (a b : Bool). a and not b) there shares-it ∙ sym (and-left-holds refl (not same)));
+        only-is = count-here j _ false (p .only-is) (ap not there);
       }

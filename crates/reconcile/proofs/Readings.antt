@@ -5,17 +5,17 @@ use native.Mathlib.Nat.{le-refl}
 use native.Mathlib.Decide.{decLt, ℕ-discrete}
 use native.Mathlib.Omega.{arith}
 use mathlib.Core.Path.{_≡_, refl, ap, ap₂, sym, _∙_}
-use mathlib.Core.Bool.{Bool, true, cond, not}
+use mathlib.Core.Bool.{Bool}
 use mathlib.Core.Logic.{by-cases}
 use mathlib.Core.List.{List}
 use lib.ListN.{length}
 use lib.Dec.{ltb}
 use borrow.Author.Tests.{lt-ltb, le-ltb}
-use Rattle.rules.specs.Loops.{_and_, every, list}
-use Rattle.rules.specs.Refusals.{_when_, _orElse_, first}
-use Rattle.rules.proofs.Loops.Logic.{and-both, and-true}
+use Rattle.rules.specs.Loops.{_and_, every}
+use Rattle.rules.specs.Refusals.{_orElse_, first}
+use Rattle.rules.proofs.Loops.Logic.{and-true}
 use Rattle.rules.proofs.Loops.Every.{every-cong}
-use Rattle.rules.proofs.Loops.Refusals.{first-at, first-cong, orElse-under, orElse-none, when-accepted, when-refused}
+use Rattle.rules.proofs.Loops.Refusals.{first-at, first-cong, orElse-none, when-accepted, when-refused}
 use Rattle.rules.proofs.Loops.Pieces.{length-list, getD-list}
 use Rattle.ticket.specs.declared.Ticket.{Ticket}
 use Rattle.ticket.specs.declared.Reading.{Reading}
@@ -23,7 +23,7 @@ use Rattle.ticket.specs.Tickets.{numberLimit, noTicket, ticketOf, readAnswer, h
 use Rattle.ticket.proofs.RoundTrip.{number-within}
 use Rattle.reconcile.specs.Counts.{ticketAt, numberAt, rising, Listed}
 use Rattle.reconcile.specs.Lists.{ticketsIn, ticketPart, ticketsOf, ticketsAnswer}
-use Rattle.reconcile.specs.Walk.{endTicket, readAt, cursorAt, nextNumber, Sound}
+use Rattle.reconcile.specs.Walk.{endTicket, readAt, nextNumber, Sound}
 use Rattle.reconcile.proofs.Rising.{next-inside, next-end}
 
 module _ (b : List ℕ) where

@@ -1,6 +1,6 @@
 -- The walk's start and its end: what is wrong with the two lists, and the four counts.
 -- Assumes nothing.
-use Prim.Native.Nat.{ℕ, suc, _+_, _*_, _/_, _%_, _≤_}
+use Prim.Native.Nat.{ℕ, _+_, _*_, _/_, _%_, _≤_}
 use native.Mathlib.Nat.{not-suc-le-zero}
 use native.Mathlib.Decide.{ℕ-discrete}
 use native.Mathlib.Omega.{arith}
@@ -12,18 +12,17 @@ use lib.ListN.{length}
 use borrow.Author.Tests.{not-false, eqb-true, ltb-false}
 use Rattle.rules.specs.Loops.{_or_, sum, count}
 use Rattle.rules.specs.Refusals.{_when_, _orElse_}
-use Rattle.rules.proofs.Loops.Logic.{or-left, or-right, or-first, or-second, or-neither}
+use Rattle.rules.proofs.Loops.Logic.{or-left, or-right, or-neither}
 use Rattle.rules.proofs.Loops.Refusals.{orElse-first, orElse-rest, orElse-passes, orElse-under, not-met, when-not-done, when-accepted, when-refused}
 use Rattle.ticket.specs.Tickets.{ticketLength}
 use Rattle.reconcile.specs.declared.Reconciliation.{Reconciliation}
 use Rattle.reconcile.specs.declared.cursor.Cursor.{Cursor}
 use Rattle.reconcile.specs.declared.walk.Walk.{Walk}
-use Rattle.reconcile.specs.Counts.{alike, differing, only, rising}
+use Rattle.reconcile.specs.Counts.{alike, differing, rising}
 use Rattle.reconcile.specs.Lists.{listLimit, ticketsIn, ticketsOf, lengthWrong, ticketsAnswer, reconcileAnswer, reconciled, counted, reconciliation}
-use Rattle.reconcile.specs.Walk.{cursorAt, Standing, Sound, Passed, Side, Walked}
+use Rattle.reconcile.specs.Walk.{cursorAt, Standing, Sound, Side, Walked}
 use Rattle.reconcile.proofs.Laws.{alike-along, differing-along, only-along, first-adds-up, second-adds-up}
 use Rattle.reconcile.proofs.Readings.{tickets-length, all-asked, all-rise, sound-listed}
-use Rattle.reconcile.proofs.Cursors.{at-ticket}
 use Rattle.reconcile.proofs.Steps.{asWalk}
 
 pub sized : (b : List ℕ) → lengthWrong b ≡ false → (length b % ticketLength ≡ 0) × (length b ≤ listLimit * ticketLength)

@@ -5,13 +5,11 @@ use native.Mathlib.Nat.{eq-or-lt-of-le}
 use native.Mathlib.Decide.{decLt, ℕ-discrete}
 use native.Mathlib.Omega.{arith}
 use mathlib.Core.Path.{_≡_, refl, ap, ap₂, sym, _∙_}
-use mathlib.Core.Bool.{Bool, true, false, cond}
+use mathlib.Core.Bool.{true, false}
 use mathlib.Core.Logic.{⊎-elim, by-cases}
 use mathlib.Core.List.{List}
 use lib.ListN.{length}
-use lib.Dec.{eqb}
 use borrow.Author.Tests.{ltb-true, lt-ltb, le-ltb, eqb-true, eq-eqb, ne-eqb}
-use Rattle.rules.specs.Loops.{_and_, some}
 use Rattle.rules.proofs.Loops.Logic.{same, and-left, and-right, and-both}
 use Rattle.rules.proofs.Loops.Every.{every-at, some-at, some-where, some-none}
 use Rattle.rules.proofs.Loops.Ranges.{below-or-above}
@@ -20,7 +18,7 @@ use Rattle.ticket.specs.declared.Ticket.{Ticket}
 use Rattle.ticket.specs.Tickets.{numberLimit}
 use Rattle.reconcile.specs.Counts.{ticketAt, numberAt, sameTicket, has, shares, rising, Listed}
 use Rattle.reconcile.specs.Walk.{nextNumber}
-use Rattle.reconcile.proofs.SameTicket.{same-tickets}
+use Rattle.reconcile.proofs.SameTicket.{same-number}
 
 -- each number of a list is in it
 pub present : (l : List Ticket) (k : ℕ) → k < length l → has l (numberAt l k) ≡ true
@@ -35,6 +33,9 @@ module _ (l : List Ticket) (k : ℕ) where
   pub next-end : length l ≤ k → nextNumber l k ≡ suc numberLimit
   next-end past = rw (le-ltb k (length l) past) refl
 
+  pub below-end : nextNumber l k < suc numberLimit → k < length l
+  below-end less = by-cases (decLt k (length l)) (λ inside. inside) (λ past. absurd (omega (arith, next-end (omega arith))))
+
 module _ {l : List Ticket} (listed : Listed l) where
   pub above : (j k : ℕ) → j < k → k < length l → numberAt l j < numberAt l k
   unfolding rising
@@ -43,9 +44,6 @@ module _ {l : List Ticket} (listed : Listed l) where
   pub at-most-end : (k : ℕ) → nextNumber l k ≤ suc numberLimit
   at-most-end k =
       by-cases (decLt k (length l)) (λ inside. omega (arith, next-inside l k inside, listed .numbers k inside)) (λ past. omega (arith, next-end l k (omega arith)))
-
-  pub below-end : (k : ℕ) → nextNumber l k < suc numberLimit → k < length l
-  below-end k less = by-cases (decLt k (length l)) (λ inside. inside) (λ past. absurd (omega (arith, next-end l k (omega arith))))
 
   pub next-above : (j k : ℕ) → j < k → j < length l → numberAt l j < nextNumber l k
   next-above j k less inside =
@@ -58,7 +56,7 @@ module _ {l : List Ticket} (listed : Listed l) where
       (λ d. absurd (⊎-elim (λ less. omega (arith, above j k less k-in)) (λ less. omega (arith, above k j less j-in)) (below-or-above j k d)))
 
   -- no number of a later place is below the next one
-  pub from-next : (k i : ℕ) → k ≤ i → i < length l → nextNumber l k ≤ numberAt l i
+  from-next : (k i : ℕ) → k ≤ i → i < length l → nextNumber l k ≤ numberAt l i
   from-next k i past inside =
       let next = next-inside l k (omega arith) in
       ⊎-elim (λ e. omega (arith, next, ap (numberAt l) e)) (λ less. omega (arith, next, above k i less inside)) (eq-or-lt-of-le past)
@@ -81,6 +79,6 @@ module _ {l m : List Ticket} (listed : Listed l) (listed′ : Listed m) where
       let (k′, k′-in, both) = some-where (length m) _ s′ in
       let j-is : j′ ≡ j = one-place listed j′ j j′-in j-in (eqb-true _ _ (and-left _ _ both)) in
       let alike = and-right _ _ both in
-      let k-is : k′ ≡ k = one-place listed′ k′ k k′-in k-in (sym (ap (λ (t : Ticket). t .number) (same-tickets _ _ alike)) ∙ eqb-true _ _ (and-left _ _ both) ∙ e) in
+      let k-is : k′ ≡ k = one-place listed′ k′ k k′-in k-in (sym (same-number _ _ alike) ∙ eqb-true _ _ (and-left _ _ both) ∙ e) in
       sym (ap₂ (λ (a b : ℕ). sameTicket (ticketAt l a) (ticketAt m b)) j-is k-is) ∙ alike)
       (λ alike. some-at (length l) _ j j-in (some-at (length m) _ k k-in (and-both (eq-eqb (numberAt l j) _ refl) alike)))

@@ -1,7 +1,7 @@
 -- The test for the same ticket holds of equal tickets, and of no others.
 -- Assumes nothing.
 use Prim.Native.Nat.{ℕ}
-use mathlib.Core.Path.{_≡_, refl, sym, subst}
+use mathlib.Core.Path.{_≡_, refl, ap, sym, subst}
 use mathlib.Core.Bool.{true}
 use lib.Dec.{eqb}
 use borrow.Author.Tests.{eqb-true, eq-eqb}
@@ -22,6 +22,9 @@ same-tickets t u e =
     let kind : t .kind ≡ u .kind = eqb-true _ _ (and-left _ _ from-kind) in
     let desk : t .desk ≡ u .desk = eqb-true _ _ (and-right _ _ from-kind) in
     λ i. asTicket (number i) (pile i) (tonnes i) (kind i) (desk i)
+
+pub same-number : (t u : Ticket) → sameTicket t u ≡ true → t .number ≡ u .number
+same-number t u e = ap (λ (t : Ticket). t .number) (same-tickets t u e)
 
 pub equal-tickets : (t u : Ticket) → t ≡ u → sameTicket t u ≡ true
 unfolding sameTicket

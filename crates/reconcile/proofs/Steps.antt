@@ -1,24 +1,24 @@
--- What the walk holds, step by step: from the start, through the three ways a step can go, to the counts and the answer at the end.
+-- A step of the walk over two lists of bytes: as one of the lists has it, and as both do.
 -- Assumes nothing.
-use Prim.Native.Nat.{ℕ, suc, _+_, _*_, _/_, _≤_, _<_}
+use Prim.Native.Nat.{ℕ, _+_, _/_, _≤_, _<_}
 use native.Mathlib.Decide.{decLt}
 use native.Mathlib.Omega.{arith}
-use mathlib.Core.Path.{_≡_, refl, ap, ap₂, sym, _∙_}
+use mathlib.Core.Path.{_≡_, ap, ap₂, sym, _∙_}
 use mathlib.Core.Bool.{Bool, true, false, cond, not}
 use mathlib.Core.Logic.{by-cases}
 use mathlib.Core.List.{List}
 use lib.ListN.{length}
 use Rattle.ticket.specs.declared.Ticket.{Ticket}
-use Rattle.ticket.specs.Tickets.{ticketLength, numberLimit}
+use Rattle.ticket.specs.Tickets.{ticketLength}
 use Rattle.reconcile.specs.declared.cursor.Cursor.{Cursor}
 use Rattle.reconcile.specs.declared.walk.Walk.{Walk}
 use Rattle.reconcile.specs.Counts.{ticketAt, sameTicket}
-use Rattle.reconcile.specs.Lists.{listLimit, ticketsIn, ticketsOf}
-use Rattle.reconcile.specs.Walk.{cursorAt, nextNumber, Standing, Sound, Passed, Side, Walked}
+use Rattle.reconcile.specs.Lists.{listLimit, ticketsOf}
+use Rattle.reconcile.specs.Walk.{cursorAt, nextNumber, Standing, Sound, Side, Walked}
 use Rattle.reconcile.proofs.SameTicket.{same-exchanged}
 use Rattle.reconcile.proofs.Passing.{pass-own, pass-other, pass-both}
 use Rattle.reconcile.proofs.Readings.{tickets-length, ticket-read, number-read, sound-listed}
-use Rattle.reconcile.proofs.Cursors.{at-ticket, head-is, inside, head-most, head-below, head-end, at-a-ticket, moved}
+use Rattle.reconcile.proofs.Cursors.{head-is, inside, head-most, head-below, head-end, at-a-ticket, moved}
 
 abbrev pub asWalk : Cursor → Cursor → ℕ → ℕ → ℕ → ℕ → Walk
 asWalk bridge desk alike differing onlyBridge onlyDesk =

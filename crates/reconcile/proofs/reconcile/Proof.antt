@@ -1,6 +1,6 @@
 -- `reconcile` walks to the end of both lists, and hands back the counts where nothing is wrong.
 -- Assumes nothing.
-use Prim.Native.Nat.{_+_, _-_, _<_}
+use Prim.Native.Nat.{_+_, _-_}
 use native.Mathlib.Omega.{arith}
 use native.Mathlib.Nat.{suc-ne-zero}
 use mathlib.Core.Path.{_≡_, sym, _∙_}

@@ -1,9 +1,8 @@
 -- `read_at` reads the ticket's 11 bytes, or hands back the end.
 -- Assumes nothing.
-use Prim.Native.Nat.{_+_, _-_, _*_, _/_, _<_}
+use Prim.Native.Nat.{_+_, _-_, _*_, _/_}
 use native.Mathlib.Omega.{arith}
 use mathlib.Core.Path.{_≡_, sym, _∙_}
-use lib.ListN.{length}
 use borrow.Author.Needs.{needs}
 use Rattle.ticket.specs.Tickets.{ticketLength}
 use Rattle.reconcile.proofs.Readings.{read-inside, read-end}

@@ -1,7 +1,6 @@
 -- `rises_to` asks the next number only where those before it rise.
 -- Assumes nothing.
 use mathlib.Core.Path.{sym, _∙_}
-use borrow.Author.Tests.{lt-ltb, le-ltb}
 use Rattle.rules.proofs.Loops.Logic.{and-left-holds, and-left-fails}
 use Rattle.reconcile.proofs.cursor.rises_to.Statement.{statement}
 use Rattle.reconcile.proofs.cursor.rises_to.Tie as tie
