@@ -161,8 +161,8 @@ fn tickets(pass: &Pass) {
     });
 }
 
-/// So many tickets, with numbers that rise but leave out one of eight, and of
-/// another one of eight with a tonne more or not.
+/// So many tickets with rising numbers: of every eight numbers one is left out,
+/// and another's ticket has so many tonnes more.
 fn list(count: usize, left_out: u32, more: u32) -> Vec<u8> {
     let numbers = (0..).filter(|number| number % 8 != left_out);
     let written = |number: u32| {

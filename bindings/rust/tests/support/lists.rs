@@ -34,8 +34,8 @@ fn length(chance: &mut Chance) -> usize {
     }
 }
 
-/// Rising numbers with small steps, so that two lists have many in common. Some
-/// start at 0, some end at the last number.
+/// Rising numbers from a first one on, with small steps, so that two lists have
+/// many in common.
 fn numbers(chance: &mut Chance, count: usize, first: u32) -> Vec<u32> {
     let mut next = first;
     let mut step = || {
@@ -111,7 +111,8 @@ fn in_bytes(chance: &mut Chance, list: &mut Vec<u8>) {
     }
 }
 
-/// Two lists, and four numbers lent for the counts.
+/// Two lists, and four numbers lent for the counts. Some lists start at 0, some
+/// end at the last number that a ticket can have.
 pub fn random(chance: &mut Chance) -> Case {
     let count = length(chance);
     let first = match chance.below(4) {
