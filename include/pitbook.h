@@ -30,7 +30,7 @@ enum pit_refusal {
     PIT_DONE = 0,                /* no refusal */
     PIT_BOOK_SHORT = 1,          /* fewer than 4 bytes */
     PIT_HEAD_WRONG = 2,          /* head wrong; number of desks or piles out of range */
-    PIT_LENGTH_WRONG = 3,        /* length not as the head, the sizes, the record, the ticket or a list of tickets want it */
+    PIT_LENGTH_WRONG = 3,        /* length not as the head, the sizes, the record, a row, the ticket or a list of tickets want it */
     PIT_CONTENTS_WRONG = 4,      /* pile number or position wrong, or numbers not rising */
     PIT_OPENING_UNLAWFUL = 5,    /* opening unlawful, or an unused share not 0 */
     PIT_TALLY_WRONG = 6,         /* tally over its limit, a give to oneself, or an unused place not 0 */
@@ -59,11 +59,12 @@ enum pit_refusal {
     PIT_DESK_NOT_RISING = 37     /* those of the desk's list do not */
 };
 
-/* What pit_later answers. */
-enum pit_handed_on {
-    PIT_NEITHER_ROW = 0,
-    PIT_FIRST_ROW = 1,
-    PIT_SECOND_ROW = 2
+/* What pit_compare tells of two rows. */
+enum pit_order {
+    PIT_ALIKE = 1,
+    PIT_MINE_LATER = 2,
+    PIT_COPY_LATER = 3,
+    PIT_SPLIT = 4
 };
 
 /* A ticket's kind. */
@@ -149,10 +150,13 @@ uint8_t pit_give_draw(uint8_t *book, size_t book_length, uint8_t desk, uint16_t 
 uint8_t pit_give_tip(uint8_t *book, size_t book_length, uint8_t desk, uint16_t pile, uint8_t receiver, uint32_t amount);
 
 /*
- * A desk takes another's copy into its own book: for each pile and desk the later row stands there afterwards.
- * Answers 1 to 7 for the own book, 21 to 27 for the copy, 11, 30, then by pile and by desk 31 or 32, or 0.
+ * A desk takes another's copy into its own book: for each pile and desk the later row stands there afterwards. The number of pairs of a
+ * pile and a desk whose row changed goes to changed. It is 0 exactly when the copy brought nothing and the book's bytes are as they were:
+ * such a copy need not be relayed.
+ * Answers 1 to 7 for the own book, 21 to 27 for the copy, 11, 30, then by pile and by desk 31 or 32, or 0; changed stays where it is
+ * not 0.
  */
-uint8_t pit_take(uint8_t *own, size_t own_length, const uint8_t *copy, size_t copy_length, uint8_t desk);
+uint8_t pit_take(uint8_t *own, size_t own_length, const uint8_t *copy, size_t copy_length, uint8_t desk, uint32_t *changed);
 
 /*
  * A desk's draw rights or tip rights of a pile, in tonnes, to out.
@@ -191,10 +195,13 @@ uint8_t pit_fetch(const uint8_t *book, size_t book_length, uint16_t pile, uint32
 uint8_t pit_store(uint8_t *book, size_t book_length, uint16_t pile, const uint32_t *record, size_t record_length);
 
 /*
- * Which of two rows of a desk is later. Answers PIT_FIRST_ROW, also where they are alike, or PIT_SECOND_ROW; and PIT_NEITHER_ROW
- * where they are split, differ in length, or have a length other than PIT_ROW_LENGTH of 1 to 8 desks. This is no refusal's number.
+ * Compares two rows of a desk, mine and the copy's: PIT_ALIKE, PIT_MINE_LATER, PIT_COPY_LATER or PIT_SPLIT, to order. One row is later
+ * than another if it is at least the other at every place and differs from it; rows that differ with neither later are split. Of two rows
+ * that are not split, a take keeps the later one.
+ * Answers 3 where the rows differ in length or have a length other than PIT_ROW_LENGTH of 1 to 8 desks, or 0; order stays where it is
+ * not 0.
  */
-uint8_t pit_later(const uint8_t *first, size_t first_length, const uint8_t *second, size_t second_length);
+uint8_t pit_compare(const uint8_t *mine, size_t mine_length, const uint8_t *copy, size_t copy_length, uint32_t *order);
 
 /*
  * Reads a weighbridge ticket of PIT_TICKET_LENGTH bytes: its number in 4, its pile in 3 and its tonnes in 2, all packed decimal (two

@@ -46,7 +46,7 @@ void bounds(void);
 void contents_and_bodies(void);
 void body_lengths(void);
 void records(void);
-void later_rows(void);
+void compared_rows(void);
 void tickets(void);
 void reconciliations(void);
 void shortest_and_longest(void);

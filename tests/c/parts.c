@@ -125,10 +125,12 @@ void records(void)
     stores_refused();
 }
 
-void later_rows(void)
+/* The row of desk 0 in F, in G and where it acted twice from F; and rows that cannot be compared. */
+void compared_rows(void)
 {
     uint8_t f[WORKED_LENGTH], g[WORKED_LENGTH], other[WORKED_LENGTH];
     const size_t row = PIT_ROW_LENGTH(3);
+    uint32_t order = 0;
     open_f(f);
     make_g(g);
     open_f(other);
@@ -136,16 +138,24 @@ void later_rows(void)
     const uint8_t *f0 = f + WORKED_BODY + row;
     const uint8_t *g0 = g + WORKED_BODY + row;
     const uint8_t *other0 = other + WORKED_BODY + row;
-    EXPECT(pit_later(f0, row, g0, row), PIT_SECOND_ROW);
-    EXPECT(pit_later(g0, row, f0, row), PIT_FIRST_ROW);
-    EXPECT(pit_later(g0, row, g0, row), PIT_FIRST_ROW);
-    EXPECT(pit_later(g0, row, other0, row), PIT_NEITHER_ROW);
-    EXPECT(pit_later(f0, row, g0, row - 8), PIT_NEITHER_ROW);
-    EXPECT(pit_later(f0, row - 1, g0, row - 1), PIT_NEITHER_ROW);
-    EXPECT(pit_later(f0, 8, g0, 8), PIT_NEITHER_ROW);
-    EXPECT(pit_later(f, PIT_ROW_LENGTH(9), g, PIT_ROW_LENGTH(9)), PIT_NEITHER_ROW);
-    EXPECT(pit_later(f0, 0, g0, 0), PIT_NEITHER_ROW);
-    passed("later rows: the first, the second, or neither");
+    EXPECT(pit_compare(g0, row, g0, row, &order), PIT_DONE);
+    EXPECT(order, PIT_ALIKE);
+    EXPECT(pit_compare(g0, row, f0, row, &order), PIT_DONE);
+    EXPECT(order, PIT_MINE_LATER);
+    EXPECT(pit_compare(f0, row, g0, row, &order), PIT_DONE);
+    EXPECT(order, PIT_COPY_LATER);
+    EXPECT(pit_compare(g0, row, other0, row, &order), PIT_DONE);
+    EXPECT(order, PIT_SPLIT);
+    passed("rows compared: alike, mine later, the copy's later, split");
+
+    order = 77;
+    EXPECT(pit_compare(f0, row, g0, row - 8, &order), PIT_LENGTH_WRONG);
+    EXPECT(pit_compare(f0, row - 1, g0, row - 1, &order), PIT_LENGTH_WRONG);
+    EXPECT(pit_compare(f0, 8, g0, 8, &order), PIT_LENGTH_WRONG);
+    EXPECT(pit_compare(f, PIT_ROW_LENGTH(9), g, PIT_ROW_LENGTH(9), &order), PIT_LENGTH_WRONG);
+    EXPECT(pit_compare(f0, 0, g0, 0, &order), PIT_LENGTH_WRONG);
+    EXPECT(order, 77);
+    passed("rows of two lengths, or of no book's length: 3, and what is lent stays");
 }
 
 void shortest_and_longest(void)

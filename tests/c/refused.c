@@ -56,7 +56,7 @@ void books_refused(void)
         EXPECT(pit_draw(book, given, 3, 8, 0), answer);
         EXPECT(pit_give_draw(book, given, 3, 8, 3, 0), answer);
         EXPECT(pit_give_tip(book, given, 3, 8, 3, 0), answer);
-        EXPECT(pit_take(book, given, (const uint8_t *)"", 0, 3), answer);
+        EXPECT(pit_take(book, given, (const uint8_t *)"", 0, 3, &tonnes), answer);
         EXPECT(pit_draw_rights(book, given, 3, 8, &tonnes), answer);
         EXPECT(pit_tip_rights(book, given, 3, 8, &tonnes), answer);
         EXPECT(pit_tonnage(book, given, 8, &tonnes), answer);
@@ -73,13 +73,15 @@ void books_refused(void)
 void copies_refused(void)
 {
     uint8_t g[WORKED_LENGTH], book[WORKED_LENGTH], copy[WORKED_LENGTH + 1];
+    uint32_t changed = 77;
     make_g(g);
     memcpy(book, g, sizeof g);
     for (size_t k = 0; k < BROKEN; k++) {
         break_g(&broken[k], copy);
-        EXPECT(pit_take(book, sizeof book, copy, broken[k].length, 3), broken[k].answer + 20);
+        EXPECT(pit_take(book, sizeof book, copy, broken[k].length, 3, &changed), broken[k].answer + 20);
     }
     EXPECT_BYTES(book, g, sizeof g);
+    EXPECT(changed, 77);
     passed("a copy's bytes: 21 to 27, and the own book stays");
 }
 

@@ -98,15 +98,18 @@ static void cases_on_g(void)
 static void cases_of_takes(void)
 {
     uint8_t f[WORKED_LENGTH], g[WORKED_LENGTH], book[WORKED_LENGTH], before[WORKED_LENGTH], copy[WORKED_LENGTH];
+    uint32_t changed = 77;
     open_f(f);
     make_g(g);
     memcpy(book, g, sizeof g);
-    EXPECT(pit_take(book, sizeof book, f, sizeof f, 0), PIT_DONE);
+    EXPECT(pit_take(book, sizeof book, f, sizeof f, 0, &changed), PIT_DONE);
     EXPECT_BYTES(book, g, sizeof g);
+    EXPECT(changed, 0);
     passed("h: desk 0 takes F into G: G unaltered");
 
     memcpy(book, f, sizeof f);
-    EXPECT(pit_take(book, sizeof book, g, sizeof g, 2), PIT_OWN_ROW_BEHIND);
+    changed = 77;
+    EXPECT(pit_take(book, sizeof book, g, sizeof g, 2, &changed), PIT_OWN_ROW_BEHIND);
     EXPECT_BYTES(book, f, sizeof f);
     passed("i: desk 2 takes G into F: 32");
 
@@ -115,8 +118,9 @@ static void cases_of_takes(void)
     memcpy(before, book, sizeof book);
     memcpy(copy, f, sizeof f);
     EXPECT(pit_tip(copy, sizeof copy, 0, WORKED_PILE, 30), PIT_DONE);
-    EXPECT(pit_take(book, sizeof book, copy, sizeof copy, 1), PIT_ROWS_SPLIT);
+    EXPECT(pit_take(book, sizeof book, copy, sizeof copy, 1, &changed), PIT_ROWS_SPLIT);
     EXPECT_BYTES(book, before, sizeof book);
+    EXPECT(changed, 77);
     passed("j: desk 1 takes \"F, desk 0 tips 30\" into \"F, desk 0 tips 10, gives tip 5 to desk 1\": 31");
 }
 
@@ -140,7 +144,7 @@ int main(void)
     contents_and_bodies();
     body_lengths();
     records();
-    later_rows();
+    compared_rows();
     tickets();
     reconciliations();
     shortest_and_longest();

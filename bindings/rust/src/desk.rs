@@ -65,7 +65,8 @@ impl<B: AsMut<[u8]>> Book<B> {
     }
 
     /// A desk, whose own newest book this is, takes in the copy of another desk's book: afterwards this book holds the acts of both. The
-    /// copy may be old, or taken before.
+    /// copy may be old, or taken before. Tells the number of pile and desk pairs whose row changed: 0 exactly when the copy brought nothing
+    /// and the book's bytes are as they were, so that it need not be relayed.
     ///
     /// Refused where the copy is no lawful book (`Copy…`), with [`DeskAbsent`](Refusal::DeskAbsent), where it is a copy of another book
     /// ([`OpeningDiffers`](Refusal::OpeningDiffers)), and where some desk acted twice from one old book
@@ -80,8 +81,8 @@ impl<B: AsMut<[u8]>> Book<B> {
     /// west.tip(1, 7, 1)?;
     ///
     /// // Desk 1 takes desk 0's book, twice: the second time there is nothing new.
-    /// west.take(&east, 1)?;
-    /// west.take(&east, 1)?;
+    /// assert_eq!(west.take(&east, 1)?, 1);
+    /// assert_eq!(west.take(&east, 1)?, 0);
     /// assert_eq!(west.tonnage(7)?, 41);
     ///
     /// // Then desk 0 takes desk 1's, as bytes, and both books are equal.
@@ -89,8 +90,11 @@ impl<B: AsMut<[u8]>> Book<B> {
     /// assert_eq!(east, west);
     /// # Ok::<(), Refusal>(())
     /// ```
-    pub fn take<C: AsRef<[u8]> + ?Sized>(&mut self, copy: &C, desk: u8) -> Result<(), Refusal> {
-        done(raw::take(self.bytes.as_mut(), copy.as_ref(), desk))
+    pub fn take<C: AsRef<[u8]> + ?Sized>(&mut self, copy: &C, desk: u8) -> Result<u32, Refusal> {
+        let mut changed = 0;
+        let own = self.bytes.as_mut();
+        done(raw::take(own, copy.as_ref(), desk, &mut changed))?;
+        Ok(changed)
     }
 
     /// Stores a record of the pile. Storing is no act: what other desks' copies hold is not looked at.

@@ -69,6 +69,7 @@ unsafe extern "C" {
         copy: *const u8,
         copy_length: usize,
         desk: u8,
+        changed: *mut u32,
     ) -> u8;
 
     pub(crate) fn pit_draw_rights(
@@ -121,11 +122,12 @@ unsafe extern "C" {
         record_length: usize,
     ) -> u8;
 
-    pub(crate) fn pit_later(
-        first: *const u8,
-        first_length: usize,
-        second: *const u8,
-        second_length: usize,
+    pub(crate) fn pit_compare(
+        mine: *const u8,
+        mine_length: usize,
+        copy: *const u8,
+        copy_length: usize,
+        order: *mut u32,
     ) -> u8;
 
     pub(crate) fn pit_read_ticket(

@@ -5,8 +5,8 @@
 //! only rights that it holds: draw rights guard the floor, tip rights the top.
 //!
 //! [`Opening`] makes a book, [`Book`] is one over a caller's bytes, with its queries, the four acts and the take, [`Record`] is a pile of it
-//! by value, [`Ticket`] is a load's record from the weighbridge, [`reconcile`] compares two lists of those, and [`Refusal`] says why a call
-//! was refused. [`raw`] has the functions of the static library, which is proved to answer as document 01 has it.
+//! by value, [`compare_rows`] tells which of two rows is later, [`Ticket`] is a load's record from the weighbridge, [`reconcile`] compares two
+//! lists of those, and [`Refusal`] says why a call was refused. [`raw`] has the functions of the static library, which is proved to answer as document 01 has it.
 //!
 //! ```
 //! use pitbook::{Opening, Refusal};
@@ -20,7 +20,7 @@
 //! desks[0].give_draw(0, 7, 2, 10)?;
 //! assert_eq!(desks[2].draw(2, 7, 2), Err(Refusal::RightsShort));
 //! let copy = desks[0].clone();
-//! desks[2].take(&copy, 2)?;
+//! assert_eq!(desks[2].take(&copy, 2)?, 1);
 //! desks[2].draw(2, 7, 2)?;
 //! assert_eq!(desks[2].tonnage(7)?, 38);
 //! # Ok::<(), Refusal>(())
@@ -56,5 +56,5 @@ pub use opening::Opening;
 pub use reconcile::{Reconciliation, reconcile};
 pub use record::{Record, Row};
 pub use refusal::Refusal;
-pub use rows::later_row;
+pub use rows::{RowOrder, compare_rows, later_row};
 pub use ticket::Ticket;

@@ -89,10 +89,20 @@ pub fn give_tip(book: &mut [u8], desk: u8, pile: u16, receiver: u8, amount: u32)
     unsafe { ffi::pit_give_tip(book.as_mut_ptr(), book.len(), desk, pile, receiver, amount) }
 }
 
-/// A desk takes a copy into its own book. Refused with 1 to 7, 21 to 27 for the copy, 11, 30, then by pile and by desk 31 or 32.
-pub fn take(own: &mut [u8], copy: &[u8], desk: u8) -> u8 {
+/// A desk takes a copy into its own book; the number of pile and desk pairs whose row changed goes to `changed`. Refused with 1 to 7, 21 to
+/// 27 for the copy, 11, 30, then by pile and by desk 31 or 32, and then `changed` stays.
+pub fn take(own: &mut [u8], copy: &[u8], desk: u8, changed: &mut u32) -> u8 {
     // SAFETY: the references lend all that the call reads and writes; see the top.
-    unsafe { ffi::pit_take(own.as_mut_ptr(), own.len(), copy.as_ptr(), copy.len(), desk) }
+    unsafe {
+        ffi::pit_take(
+            own.as_mut_ptr(),
+            own.len(),
+            copy.as_ptr(),
+            copy.len(),
+            desk,
+            changed,
+        )
+    }
 }
 
 /// A desk's draw rights of a pile. Refused with 1 to 7, 11 or 10, and then `out` stays.
@@ -155,11 +165,11 @@ pub fn store(book: &mut [u8], pile: u16, record: &[u32]) -> u8 {
     }
 }
 
-/// Which of two rows is later: 1 for the first, also where they are alike, 2 for the second, and 0 where they are split or no rows of
-/// one length.
-pub fn later(a: &[u8], b: &[u8]) -> u8 {
+/// Compares two rows: to `order` goes 1 where they are alike, 2 where mine is later, 3 where the copy's is, 4 where they are split. Refused
+/// with 3 where they differ in length or have the length of no row, and then `order` stays.
+pub fn compare(mine: &[u8], copy: &[u8], order: &mut u32) -> u8 {
     // SAFETY: the references lend all that the call reads and writes; see the top.
-    unsafe { ffi::pit_later(a.as_ptr(), a.len(), b.as_ptr(), b.len()) }
+    unsafe { ffi::pit_compare(mine.as_ptr(), mine.len(), copy.as_ptr(), copy.len(), order) }
 }
 
 /// Reads a weighbridge ticket of 11 bytes. Refused with 3, then field by field, digits before values, with 33, 34, 13 or 35, and then

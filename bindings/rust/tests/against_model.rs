@@ -14,14 +14,14 @@ mod support;
 use std::collections::BTreeMap;
 use support::places::{Case, Place};
 use support::places::{LIBRARY, MODEL, PLACES};
-use support::{case, from_environment, judge, say, seed};
+use support::{Outcome, case, from_environment, judge, say, seed};
 
 /// Calls compared in all, if PITBOOK_CASES is not set.
 const CASES: u64 = 600_000;
 
-/// Document 01, "Refusals by place", 3/12 and 4/12: the numbers that can come from a
+/// Document 01, "Refusals by place", 3/12 to 5/12: the numbers that can come from a
 /// place, 0 (done) first. Each must be reached.
-const EXPECTED: [(&str, &[u8]); 22] = [
+const EXPECTED: [(&str, &[u8]); 26] = [
     // "Opening: 2, 3, 4, 5, by pile. 8"
     ("open", &[0, 2, 3, 4, 5, 8]),
     // "Book bytes: 1 to 4", "Each body, in file order: 5 to 7"
@@ -50,6 +50,8 @@ const EXPECTED: [(&str, &[u8]); 22] = [
             0, 1, 2, 3, 4, 5, 6, 7, 21, 22, 23, 24, 25, 26, 27, 11, 30, 31, 32,
         ],
     ),
+    // 5/12: a take that reports 0; the others above report more.
+    ("take, nothing new", &[0]),
     ("draw_rights", &[0, 1, 2, 3, 4, 5, 6, 7, 11, 10]),
     ("tip_rights", &[0, 1, 2, 3, 4, 5, 6, 7, 11, 10]),
     // "Tonnage, fetch, store: the book's own, then 10"
@@ -64,10 +66,13 @@ const EXPECTED: [(&str, &[u8]); 22] = [
     // "then 10; store then" 3, a count other than 163, "the record's own, then
     // 30": all with a lawful book.
     ("store, lawful book", &[0, 10, 3, 2, 5, 6, 7, 30]),
-    // 0 the empty part, 1 the first row, 2 the second.
-    ("later, rows", &[0, 1, 2]),
-    // "differ in length or have a length other than 8(n + 1)"
-    ("later, other lengths", &[0]),
+    // 5/12: "alike, mine later, the copy's later, split. Rows of lengths for
+    // which document 01 hands on an empty part meet 3."
+    ("compare, alike", &[0]),
+    ("compare, mine later", &[0]),
+    ("compare, the copy's later", &[0]),
+    ("compare, split", &[0]),
+    ("compare, no rows", &[3]),
     // 3/12: "Checked in field order after length, which is refusal 3"
     ("read_ticket", &[0, 3, 33, 34, 13, 35]),
     // "Writing meets 8 last"
@@ -79,31 +84,31 @@ const EXPECTED: [(&str, &[u8]); 22] = [
 /// How often each number was answered, by name of EXPECTED.
 type Reached = BTreeMap<&'static str, BTreeMap<u8, u64>>;
 
-/// The name in EXPECTED that a case is counted under.
-fn counted_as(case: &Case) -> &'static str {
-    let (book, copy) = (&case.lent.book, &case.lent.copy);
+/// The name in EXPECTED that a case is counted under, by what came of it.
+fn counted_as(case: &Case, found: &Outcome) -> &'static str {
+    let numbers = &found.lent.numbers;
     match case.place {
-        Place::Store if model::check(book) == 0 => "store, lawful book",
-        Place::Later if book.len() == copy.len() && (16..=72).contains(&book.len()) => {
-            if book.len() % 8 == 0 {
-                "later, rows"
-            } else {
-                "later, other lengths"
-            }
-        }
-        Place::Later => "later, other lengths",
+        Place::Store if model::check(&case.lent.book) == 0 => "store, lawful book",
+        Place::Take if found.answer == 0 && numbers[0] == 0 => "take, nothing new",
+        Place::Compare if found.answer != 0 => "compare, no rows",
+        Place::Compare => match numbers[0] {
+            1 => "compare, alike",
+            2 => "compare, mine later",
+            3 => "compare, the copy's later",
+            _ => "compare, split",
+        },
         place => place.name(),
     }
 }
 
 /// Rows, tickets and lists of them are no books.
 fn has_a_book(place: Place) -> bool {
-    use Place::{Later, ReadTicket, Reconcile, WriteTicket};
-    !matches!(place, Later | ReadTicket | WriteTicket | Reconcile)
+    use Place::{Compare, ReadTicket, Reconcile, WriteTicket};
+    !matches!(place, Compare | ReadTicket | WriteTicket | Reconcile)
 }
 
 /// Compares this place's part of all cases.
-fn compare(place: Place) {
+fn side_by_side(place: Place) {
     let seed = seed();
     let count = from_environment("PITBOOK_CASES", CASES).div_ceil(PLACES.len() as u64);
     let mut reached = Reached::new();
@@ -114,7 +119,7 @@ fn compare(place: Place) {
         let expected = MODEL.outcome(&case);
         let found = LIBRARY.outcome(&case);
         judge(&case, seed, number, &expected, &found);
-        let answers = reached.entry(counted_as(&case)).or_default();
+        let answers = reached.entry(counted_as(&case, &found)).or_default();
         *answers.entry(found.answer).or_default() += 1;
         if has_a_book(place) && found.answer == 0 {
             desks_seen[usize::from(found.lent.book[1])] += 1;
@@ -168,100 +173,100 @@ fn report(place: Place, seed: u64, count: u64, reached: &Reached) {
 
 #[test]
 fn open() {
-    compare(Place::Open);
+    side_by_side(Place::Open);
 }
 
 #[test]
 fn check() {
-    compare(Place::Check);
+    side_by_side(Place::Check);
 }
 
 #[test]
 fn contents() {
-    compare(Place::Contents);
+    side_by_side(Place::Contents);
 }
 
 #[test]
 fn body() {
-    compare(Place::Body);
+    side_by_side(Place::Body);
 }
 
 #[test]
 fn tip() {
-    compare(Place::Tip);
+    side_by_side(Place::Tip);
 }
 
 #[test]
 fn draw() {
-    compare(Place::Draw);
+    side_by_side(Place::Draw);
 }
 
 #[test]
 fn give_draw() {
-    compare(Place::GiveDraw);
+    side_by_side(Place::GiveDraw);
 }
 
 #[test]
 fn give_tip() {
-    compare(Place::GiveTip);
+    side_by_side(Place::GiveTip);
 }
 
 #[test]
 fn take() {
-    compare(Place::Take);
+    side_by_side(Place::Take);
 }
 
 #[test]
 fn draw_rights() {
-    compare(Place::DrawRights);
+    side_by_side(Place::DrawRights);
 }
 
 #[test]
 fn tip_rights() {
-    compare(Place::TipRights);
+    side_by_side(Place::TipRights);
 }
 
 #[test]
 fn tonnage() {
-    compare(Place::Tonnage);
+    side_by_side(Place::Tonnage);
 }
 
 #[test]
 fn least() {
-    compare(Place::Least);
+    side_by_side(Place::Least);
 }
 
 #[test]
 fn most() {
-    compare(Place::Most);
+    side_by_side(Place::Most);
 }
 
 #[test]
 fn fetch() {
-    compare(Place::Fetch);
+    side_by_side(Place::Fetch);
 }
 
 #[test]
 fn store() {
-    compare(Place::Store);
+    side_by_side(Place::Store);
 }
 
 #[test]
-fn later() {
-    compare(Place::Later);
+fn compare() {
+    side_by_side(Place::Compare);
 }
 
 #[test]
 fn read_ticket() {
-    compare(Place::ReadTicket);
+    side_by_side(Place::ReadTicket);
 }
 
 #[test]
 fn write_ticket() {
-    compare(Place::WriteTicket);
+    side_by_side(Place::WriteTicket);
 }
 
 #[test]
 fn reconcile() {
-    compare(Place::Reconcile);
+    side_by_side(Place::Reconcile);
 }

@@ -95,7 +95,9 @@ fn compare_all(seen: &mut Seen, k: usize, case: Case) {
     compare("give tip", &|v, l| {
         (v.give_tip)(&mut l.book, desk, pile, receiver, amount)
     });
-    compare("take", &|v, l| (v.take)(&mut l.book, &copy, desk));
+    compare("take", &|v, l| {
+        (v.take)(&mut l.book, &copy, desk, &mut l.number)
+    });
     compare("tonnage", &|v, l| (v.tonnage)(&l.book, pile, &mut l.number));
     compare("draw rights", &|v, l| {
         (v.draw_rights)(&l.book, desk, pile, &mut l.number)
@@ -136,6 +138,34 @@ fn near(random: &mut Random, limit: usize) -> u32 {
         2 => random.below(1 << 32) as u32,
         _ => 1 + random.below(limit) as u32,
     }
+}
+
+/// Two rows of 0 to 8 desks that differ in up to two bytes, and sometimes rows
+/// of other lengths.
+fn compare_rows(seen: &mut Seen, k: usize, random: &mut Random) {
+    let length = match random.below(8) {
+        0 => random.below(100),
+        _ => 8 * (1 + random.below(9)),
+    };
+    let mine: Vec<u8> = (0..length).map(|_| random.below(256) as u8).collect();
+    let mut copy = mine.clone();
+    let changes = if length == 0 { 0 } else { random.below(3) };
+    for _ in 0..changes {
+        copy[random.below(length)] = random.below(256) as u8;
+    }
+    if random.below(16) == 0 {
+        copy.push(0);
+    }
+    let lent = Lent {
+        book: mine,
+        number: 0xaaaa_aaaa,
+        numbers: Vec::new(),
+        ticket: NO_TICKET,
+        counts: NO_COUNTS,
+    };
+    compare(seen, k, "compare", &lent, |v, l| {
+        (v.compare)(&l.book, &copy, &mut l.number)
+    });
 }
 
 /// Bytes that are most often a ticket but for one of them, to be read; then a
@@ -212,7 +242,7 @@ fn compare_lists(seen: &mut Seen, k: usize, random: &mut Random) {
 }
 
 /// Every answer of the table, so that no refusal goes without a comparison.
-const ANSWERS: [(&str, &[u8]); 17] = [
+const ANSWERS: [(&str, &[u8]); 18] = [
     ("check", &[0, 1, 2, 3, 4, 5, 6, 7]),
     ("tip", &[0, 1, 2, 3, 4, 5, 6, 7, 10, 11, 13, 14, 15]),
     ("draw", &[0, 1, 2, 3, 4, 5, 6, 7, 10, 11, 13, 14, 15]),
@@ -238,6 +268,7 @@ const ANSWERS: [(&str, &[u8]); 17] = [
     ("fetch", &[0, 1, 2, 3, 4, 5, 6, 7, 8, 10]),
     ("store", &[0, 1, 2, 3, 4, 5, 6, 7, 10, 30]),
     ("open", &[0, 2, 3, 4, 5, 8]),
+    ("compare", &[0, 3]),
     ("ticket read", &[0, 3, 13, 33, 34, 35]),
     ("ticket written", &[0, 8, 13, 33, 34, 35]),
     ("reconcile", &[0, 3, 13, 33, 34, 35, 36, 37]),
@@ -250,6 +281,7 @@ fn all_agree_on_random_books() {
     let mut seen = Seen::new();
     for k in 0..CASES {
         compare_all(&mut seen, k, Case::new(&mut random));
+        compare_rows(&mut seen, k, &mut random);
         compare_tickets(&mut seen, k, &mut random);
         compare_lists(&mut seen, k, &mut random);
     }
@@ -317,14 +349,16 @@ fn worked_book() {
         assert_eq!((v.draw)(&mut g.clone(), 0, 7, 0), 13, "g");
         assert_eq!((v.draw)(&mut g.clone(), 0, 7, 1_001), 13, "g");
         assert_eq!((v.draw)(&mut g.clone(), 0, 7, 1_000), 14, "g");
-        let mut h = g.clone();
-        assert_eq!((v.take)(&mut h, &f, 0), 0, "h");
-        assert_eq!(h, g, "h");
-        assert_eq!((v.take)(&mut f.clone(), &g, 2), 32, "i");
+        let (mut h, mut changed) = (g.clone(), 9);
+        assert_eq!((v.take)(&mut h, &f, 0, &mut changed), 0, "h");
+        assert_eq!((h == g, changed), (true, 0), "h");
+        changed = 9;
+        assert_eq!((v.take)(&mut f.clone(), &g, 2, &mut changed), 32, "i");
+        assert_eq!(changed, 9, "i");
         let (mut own, mut copy) = (f.clone(), f.clone());
         assert_eq!((v.tip)(&mut copy, 0, 7, 30), 0, "j");
         assert_eq!((v.tip)(&mut own, 0, 7, 10), 0, "j");
         assert_eq!((v.give_tip)(&mut own, 0, 7, 1, 5), 0, "j");
-        assert_eq!((v.take)(&mut own, &copy, 1), 31, "j");
+        assert_eq!((v.take)(&mut own, &copy, 1, &mut changed), 31, "j");
     }
 }

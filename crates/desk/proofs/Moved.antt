@@ -7,19 +7,23 @@ use mathlib.Core.List.{List}
 use lib.ListN.{length}
 use lib.Seq.{sets}
 use Rattle.rules.specs.Numbers.{part}
-use Rattle.rules.specs.Rows.{Order, rowOrder, numbersOf, places, laterOf}
+use Rattle.rules.specs.Rows.{Comparison, compared, isCopyLater, laterOf}
 use Rattle.rules.proofs.Loops.Parts.{sets-part}
-use Rattle.rules.proofs.Take.RowOrder.{isSecondLater, second-told}
 
-later-told : (a b : List ℕ) {o : Order} → o ≡ rowOrder (places a) (numbersOf a) (numbersOf b) → laterOf a b ≡ cond (isSecondLater o) b a
-later-told a b told = ap (λ (t : Bool). cond t b a) (second-told _ _ _ told)
+-- the rows at a position of both books
+module _ (own copy : List ℕ) (at row : ℕ) where
+  abbrev pub Becomes : Bool → List ℕ → Type 0
+  Becomes changed after =
+      (changed ≡ isCopyLater (compared (part at row own) (part at row copy))) × (after ≡ sets own at (laterOf (part at row own) (part at row copy)))
 
-module _ (own copy : List ℕ) (at row : ℕ) {o : Order}
-    (told : o ≡ rowOrder (places (part at row own)) (numbersOf (part at row own)) (numbersOf (part at row copy))) where
-  pub row-kept : at + row ≤ length own → isSecondLater o ≡ false → own ≡ sets own at (laterOf (part at row own) (part at row copy))
-  row-kept fits e =
-      sym (ap (sets own at) (later-told _ _ told ∙ ap (λ (t : Bool). cond t (part at row copy) (part at row own)) e) ∙ sets-part at row own fits)
+  -- by what comparing them tells
+  module _ {o : Comparison} (told : o ≡ compared (part at row own) (part at row copy)) where
+    pub row-kept : at + row ≤ length own → isCopyLater o ≡ false → Becomes false own
+    row-kept fits e =
+        let is = sym e ∙ ap isCopyLater told in
+        (is, sym (sets-part at row own fits) ∙ ap (λ (later : Bool). sets own at (cond later (part at row copy) (part at row own))) is)
 
-  pub row-moved : {after : List ℕ} → isSecondLater o ≡ true → after ≡ sets own at (part at row copy)
-      → after ≡ sets own at (laterOf (part at row own) (part at row copy))
-  row-moved e put = put ∙ sym (ap (sets own at) (later-told _ _ told ∙ ap (λ (t : Bool). cond t (part at row copy) (part at row own)) e))
+    pub row-moved : {after : List ℕ} → isCopyLater o ≡ true → after ≡ sets own at (part at row copy) → Becomes true after
+    row-moved e put =
+        let is = sym e ∙ ap isCopyLater told in
+        (is, put ∙ ap (λ (later : Bool). sets own at (cond later (part at row copy) (part at row own))) is)

@@ -10,6 +10,7 @@ use lib.Dec.{eqb}
 use borrow.Author.Tests.{lt-ltb, le-ltb}
 use Rattle.rules.specs.Refusals.{_when_, _orElse_, first}
 use Rattle.rules.specs.Layout.{desks, piles}
+use Rattle.rules.specs.Rows.{compared}
 use Rattle.rules.specs.Book.{bookAnswer}
 use Rattle.rules.specs.Take.{rowPart, ofCopy, sameBook, rowAnswer, takeAnswer}
 use Rattle.rules.proofs.Loops.Refusals.{own-refusal, orElse-stands, orElse-passes}
@@ -40,6 +41,6 @@ module _ (d : ℕ) (own copy : List ℕ) where
         line-30 e = rw (own-read, copy-read, lt-ltb _ _ desk, e)
 
         pub line-rows : sameBook own copy ≡ true
-            → first (piles own) (λ k. first (desks own) (λ i. rowAnswer (eqb i d) (rowPart own k (suc i)) (rowPart copy k (suc i)))) ≡ takeAnswer d own copy
+            → first (piles own) (λ k. first (desks own) (λ i. rowAnswer (eqb i d) (compared (rowPart own k (suc i)) (rowPart copy k (suc i))))) ≡ takeAnswer d own copy
         unfolding takeAnswer _when_ _orElse_
         line-rows e = rw (own-read, copy-read, lt-ltb _ _ desk, e)

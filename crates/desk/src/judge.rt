@@ -5,7 +5,7 @@ use book::layout::HEAD;
 use book::layout::POSITION;
 use number::get2;
 use number::get4;
-use rows::Order;
+use rows::Comparison;
 use rows::compare;
 ghost use mathlib.Core.Path.{_≡_};
 ghost use Prim.Native.Nat.{suc, _+_, _*_};
@@ -14,18 +14,18 @@ ghost use Rattle.rules.specs.Loops.{_and_, every};
 ghost use Rattle.rules.specs.Refusals.{first};
 ghost use Rattle.rules.specs.Numbers.{part};
 ghost use Rattle.rules.specs.Layout.{rowLength, bodyAt, pileNumber};
-ghost use Rattle.rules.specs.Rows.{rowOrder, alike, numbersOf, places};
+ghost use Rattle.rules.specs.Rows.{compared, isAlike};
 ghost use Rattle.rules.specs.Take.{rowAnswer, takeAnswer};
-ghost use Rattle.rows.specs.Orders.{asOrder};
+ghost use Rattle.rows.specs.Comparisons.{asComparison};
 ghost use Rattle.desk.specs.Both.{InBoth, BodyInBoth, Alongside, rowIn};
 
 // The refusals of a copy are those of a book and so much more.
 const OF_COPY: u8 = 20;
 
 // Compares the rows at one position of both books.
-pub(crate) fn compare_at(own: &[u8], copy: &[u8], at: usize, row: usize) -> Order
+pub(crate) fn compare_at(own: &[u8], copy: &[u8], at: usize, row: usize) -> Comparison
     requires { ⌜ InBoth at row (now own) (now copy) ⌝ }
-    ensures { λ r. ⌜ asOrder r ≡ rowOrder (places (part at row (now (own .entry)))) (numbersOf (part at row (now (own .entry)))) (numbersOf (part at row (now (copy .entry)))) ⌝ }
+    ensures { λ r. ⌜ asComparison r ≡ compared (part at row (now (own .entry))) (part at row (now (copy .entry))) ⌝ }
 {
     compare(&own[at..at + row], &copy[at..at + row])
 }
@@ -33,40 +33,41 @@ pub(crate) fn compare_at(own: &[u8], copy: &[u8], at: usize, row: usize) -> Orde
 // Are the rows at one position alike?
 fn alike_at(own: &[u8], copy: &[u8], at: usize, row: usize) -> bool
     requires { ⌜ InBoth at row (now own) (now copy) ⌝ }
-    ensures { λ r. ⌜ r ≡ alike (places (part at row (now (own .entry)))) (numbersOf (part at row (now (own .entry)))) (numbersOf (part at row (now (copy .entry)))) ⌝ }
+    ensures { λ r. ⌜ r ≡ isAlike (compared (part at row (now (own .entry))) (part at row (now (copy .entry)))) ⌝ }
 {
-    let order = compare_at(own, copy, at, row);
-    match order {
-        Order::Alike => true,
-        Order::First => false,
-        Order::Second => false,
-        Order::Split => false,
+    match compare_at(own, copy, at, row) {
+        Comparison::Alike => true,
+        Comparison::MineLater => false,
+        Comparison::CopyLater => false,
+        Comparison::Split => false,
+        Comparison::Refused(_) => false,
     }
 }
 
 // 31 where the rows at one position are split, 32 where they are the taker's own and the copy's is later.
 fn row_answer(own: &[u8], copy: &[u8], at: usize, row: usize, mine: bool) -> u8
     requires { ⌜ InBoth at row (now own) (now copy) ⌝ }
-    ensures { λ r. ⌜ r ≡ rowAnswer mine (part at row (now (own .entry))) (part at row (now (copy .entry))) ⌝ }
+    ensures { λ r. ⌜ r ≡ rowAnswer mine (compared (part at row (now (own .entry))) (part at row (now (copy .entry)))) ⌝ }
 {
-    let order = compare_at(own, copy, at, row);
-    match order {
-        Order::Alike => 0,
-        Order::First => 0,
-        Order::Second => {
+    match compare_at(own, copy, at, row) {
+        Comparison::Alike => 0,
+        Comparison::MineLater => 0,
+        Comparison::CopyLater => {
             if mine {
                 return 32;
             }
             0
         }
-        Order::Split => 31,
+        Comparison::Split => 31,
+        // Rows of readable books have a row's length.
+        Comparison::Refused(_) => 0,
     }
 }
 
 // The first refusal of the rows of one pile, desk by desk; its body starts at a position of both books.
 fn desks_answer(own: &[u8], copy: &[u8], n: usize, at: usize, desk: usize) -> u8
     requires { ⌜ BodyInBoth n at (now own) (now copy) ⌝ }
-    ensures { λ r. ⌜ r ≡ first n (λ i. rowAnswer (eqb i desk) (rowIn n (at + suc i * rowLength n) (now (own .entry))) (rowIn n (at + suc i * rowLength n) (now (copy .entry)))) ⌝ }
+    ensures { λ r. ⌜ r ≡ first n (λ i. rowAnswer (eqb i desk) (compared (rowIn n (at + suc i * rowLength n) (now (own .entry))) (rowIn n (at + suc i * rowLength n) (now (copy .entry))))) ⌝ }
 {
     let row = 8 * (n + 1);
     let mut from = at + row;
@@ -85,7 +86,7 @@ fn desks_answer(own: &[u8], copy: &[u8], n: usize, at: usize, desk: usize) -> u8
 // The first refusal of all rows, by pile and then by desk.
 fn piles_answer(own: &[u8], copy: &[u8], n: usize, p: usize, desk: usize) -> u8
     requires { ⌜ Alongside n p (now own) (now copy) ⌝ }
-    ensures { λ r. ⌜ r ≡ first p (λ k. first n (λ i. rowAnswer (eqb i desk) (rowIn n (bodyAt n p k + suc i * rowLength n) (now (own .entry))) (rowIn n (bodyAt n p k + suc i * rowLength n) (now (copy .entry))))) ⌝ }
+    ensures { λ r. ⌜ r ≡ first p (λ k. first n (λ i. rowAnswer (eqb i desk) (compared (rowIn n (bodyAt n p k + suc i * rowLength n) (now (own .entry))) (rowIn n (bodyAt n p k + suc i * rowLength n) (now (copy .entry)))))) ⌝ }
 {
     let mut k = 0;
     while k < p {
@@ -103,7 +104,7 @@ fn piles_answer(own: &[u8], copy: &[u8], n: usize, p: usize, desk: usize) -> u8
 fn same_piles(own: &[u8], copy: &[u8], n: usize, p: usize) -> bool
     requires { ⌜ Alongside n p (now own) (now copy) ⌝ }
     ensures { λ r. ⌜ r ≡ every p (λ k. eqb (pileNumber (now (own .entry)) k) (pileNumber (now (copy .entry)) k)
-        and alike (places (rowIn n (bodyAt n p k) (now (own .entry)))) (numbersOf (rowIn n (bodyAt n p k) (now (own .entry)))) (numbersOf (rowIn n (bodyAt n p k) (now (copy .entry))))) ⌝ }
+        and isAlike (compared (rowIn n (bodyAt n p k) (now (own .entry))) (rowIn n (bodyAt n p k) (now (copy .entry))))) ⌝ }
 {
     let mut k = 0;
     while k < p {

@@ -15,7 +15,7 @@ ghost use mathlib.Core.Path.{_≡_};
 ghost use Rattle.rules.specs.Pile.{draw, tip};
 ghost use Rattle.rules.specs.Acts.{spend, give};
 ghost use Rattle.rules.specs.Book.{actAnswer, afterAct};
-ghost use Rattle.rules.specs.Take.{takeAnswer, afterTake};
+ghost use Rattle.rules.specs.Take.{takeAnswer, afterTake, takeReport};
 ghost use Rattle.desk.specs.Kinds.{act};
 
 // A desk tips onto a pile; refused with 1 to 7 for the book, 11, 10, 13, 14 or 15.
@@ -50,19 +50,26 @@ pub fn give_tip(book: &mut [u8], desk: u8, number: u16, receiver: u8, amount: u3
     enter(book, desk, number, Kind::GiveTip(receiver), amount)
 }
 
+// What a take answers: its refusal's number or 0, and how many pile and desk pairs have another row now; 0 beside a refusal's number.
+pub struct Taken {
+    pub answer: u8,
+    pub changed: u32,
+}
+
 // Takes a copy of another desk's book into the own one, a state-based merge; refused with 1 to 7 for the own book, 21 to 27 for the copy, then 11, 30,
-// and by pile and desk 31 or 32. No row is written before the last pile is judged.
-pub fn take(own: &mut [u8], copy: &[u8], desk: u8) -> u8
-    ensures answer { λ r. ⌜ r ≡ takeAnswer desk (now (own .entry)) (now (copy .entry)) ⌝ }
+// and by pile and desk 31 or 32. No row is written before the last pile is judged. A copy that changes no row leaves the book's bytes as they were.
+pub fn take(own: &mut [u8], copy: &[u8], desk: u8) -> Taken
+    ensures answer { λ r. ⌜ r .answer ≡ takeAnswer desk (now (own .entry)) (now (copy .entry)) ⌝ }
+    ensures changed { λ r. ⌜ r .changed ≡ takeReport desk (now (own .entry)) (now (copy .entry)) ⌝ }
     ensures book { λ r. ⌜ now (own .exit) ≡ afterTake desk (now (own .entry)) (now (copy .entry)) ⌝ }
 {
     let answer = take_answer(own, copy, desk);
     if answer != 0 {
-        return answer;
+        return Taken { answer, changed: 0 };
     }
     let n = own[1] as usize;
     let p = own[2] as usize;
     let front = get4(own, POSITION) as usize;
-    take_rows(own, copy, front, 8 * (n + 1), p * (n + 1));
-    0
+    let changed = take_rows(own, copy, front, 8 * (n + 1), p * (n + 1));
+    Taken { answer: 0, changed }
 }

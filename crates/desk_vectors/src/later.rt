@@ -1,18 +1,22 @@
 // Two rows compared, and the one that is handed on: its length and its first byte.
 use crate::end;
 use crate::wide;
-use rows::Order;
+use rows::Comparison;
 use rows::compare;
 use rows::later_row;
 use samples::decimal;
 use samples::text;
 
-fn order(x: Order) {
+fn order(x: Comparison) {
     match x {
-        Order::Alike => text(b" alike"),
-        Order::First => text(b" first"),
-        Order::Second => text(b" second"),
-        Order::Split => text(b" split"),
+        Comparison::Alike => text(b" alike"),
+        Comparison::MineLater => text(b" mine later"),
+        Comparison::CopyLater => text(b" the copy's later"),
+        Comparison::Split => text(b" split"),
+        Comparison::Refused(number) => {
+            text(b" refused ");
+            decimal(number as u64);
+        }
     }
 }
 
@@ -54,9 +58,9 @@ fn of_two_desks() {
     let late = row(6, 2, 3, 4);
     let last = row(5, 2, 3, 5);
     two(b"rows alike", early, early);
-    two(b"rows, the second later", early, late);
-    two(b"rows, the first later", late, early);
-    two(b"rows, the second later at its last give", early, last);
+    two(b"rows, the copy's later", early, late);
+    two(b"rows, mine later", late, early);
+    two(b"rows, the copy's later at its last give", early, last);
     two(b"rows split", late, last);
     two(b"rows split, the other way", last, late);
 }

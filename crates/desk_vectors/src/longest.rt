@@ -4,6 +4,7 @@ use crate::end;
 use crate::outcome;
 use crate::pile_of;
 use crate::rights;
+use crate::taken;
 use book::length;
 use book::open;
 use desk::draw;
@@ -16,11 +17,15 @@ use samples::text;
 const LENGTH: usize = 20932;
 
 // The tonnage of pile 32, and the rights of desks 0, 1 and 7.
+fn pile_32(book: &[u8]) {
+    pile_of(book, 32);
+    rights(book, 7, 32);
+    end();
+}
+
 fn line(label: &[u8], x: u8, before: &[u8], after: &[u8]) {
     outcome(label, x, before, after);
-    pile_of(after, 32);
-    rights(after, 7, 32);
-    end();
+    pile_32(after);
 }
 
 fn opened() -> [u8; LENGTH] {
@@ -43,13 +48,15 @@ fn acted(fresh: [u8; LENGTH]) -> [u8; LENGTH] {
     book
 }
 
-// Desk 0 takes the copy into the book as opened; desk 7 may not.
-fn taken(fresh: [u8; LENGTH], copy: [u8; LENGTH]) {
+fn takes(label: &[u8], fresh: [u8; LENGTH], copy: [u8; LENGTH], desk: u8) -> [u8; LENGTH] {
     let mut book = fresh;
-    let x = take(&mut book, &copy, 7);
-    line(b"desk 7 takes its own later row", x, &fresh, &book);
-    let x = take(&mut book, &copy, 0);
-    line(b"desk 0 takes it", x, &fresh, &book);
+    let x = take(&mut book, &copy, desk);
+    taken(label, x, &fresh, &book);
+    pile_32(&book);
+    book
+}
+
+fn compared(copy: [u8; LENGTH], book: [u8; LENGTH]) {
     alike(b"the copy and the taken book", &copy, &book);
 }
 
@@ -59,5 +66,8 @@ pub(crate) fn run() {
     end();
     let fresh = opened();
     let copy = acted(fresh);
-    taken(fresh, copy);
+    // Desk 0 takes the copy into the book as opened; desk 7 may not.
+    takes(b"desk 7 takes its own later row", fresh, copy, 7);
+    let book = takes(b"desk 0 takes it", fresh, copy, 0);
+    compared(copy, book);
 }

@@ -1,8 +1,9 @@
-// Books as bytes: the acts and the take on the worked book (`worked.rt`), on a book of two piles (`takes.rt`, `refused.rt`, `broken.rt`) and on the longest
-// book (`longest.rt`), and two rows compared (`later.rt`). Each line has the call, its answer, and what it left of the lent bytes.
+// Books as bytes: the acts and the take on the worked book (`worked.rt`), on a book of two piles (`takes.rt`, `refused.rt`, `broken.rt`), on one of
+// three (`news.rt`) and on the longest (`longest.rt`), and two rows compared (`later.rt`). Each line has the call, its answer, and what it left of the lent bytes.
 mod broken;
 mod later;
 mod longest;
+mod news;
 mod refused;
 mod takes;
 mod worked;
@@ -10,6 +11,7 @@ mod worked;
 use book::draw_rights;
 use book::tip_rights;
 use book::tonnage;
+use desk::Taken;
 use samples::amount;
 use samples::decimal;
 use samples::text;
@@ -53,15 +55,28 @@ pub(crate) fn answer(label: &[u8], x: u8) {
     decimal(x as u64);
 }
 
-// A call, its answer, and whether the bytes after it are those before it, with their sum.
-pub(crate) fn outcome(label: &[u8], x: u8, before: &[u8], after: &[u8]) {
-    answer(label, x);
+// Whether the bytes after a call are those before it, with their sum.
+fn left(before: &[u8], after: &[u8]) {
     if same(before, after) {
         text(b" unaltered ");
     } else {
         text(b" altered ");
     }
     decimal(sum(after));
+}
+
+// A call, its answer, and what it left.
+pub(crate) fn outcome(label: &[u8], x: u8, before: &[u8], after: &[u8]) {
+    answer(label, x);
+    left(before, after);
+}
+
+// A take and its answer: the refusal's number or 0, and how many rows changed; then the bytes as above.
+pub(crate) fn taken(label: &[u8], x: Taken, before: &[u8], after: &[u8]) {
+    answer(label, x.answer);
+    text(b" reports ");
+    decimal(x.changed as u64);
+    left(before, after);
 }
 
 // Two books compared.
@@ -99,5 +114,6 @@ fn main() {
     refused::run();
     broken::run();
     later::run();
+    news::run();
     longest::run();
 }

@@ -9,7 +9,9 @@ use crate::broken::with;
 use crate::end;
 use crate::outcome;
 use crate::pile_of;
+use crate::taken;
 use book::open;
+use desk::Taken;
 use desk::draw;
 use desk::give_tip;
 use desk::take;
@@ -27,6 +29,11 @@ pub(crate) fn h() -> [u8; LENGTH] {
 
 fn line(label: &[u8], answer: u8, before: &[u8], after: &[u8]) {
     outcome(label, answer, before, after);
+    end();
+}
+
+fn reported(label: &[u8], x: Taken, before: &[u8], after: &[u8]) {
+    taken(label, x, before, after);
     end();
 }
 
@@ -48,7 +55,7 @@ fn draws(label: &[u8], before: [u8; LENGTH], desk: u8, number: u16, amount: u32)
 fn takes_bytes(label: &[u8], before: [u8; LENGTH], copy: &[u8], desk: u8) {
     let mut book = before;
     let answer = take(&mut book, copy, desk);
-    line(label, answer, &before, &book);
+    reported(label, answer, &before, &book);
 }
 
 fn takes(label: &[u8], before: [u8; LENGTH], copy: [u8; LENGTH], desk: u8) {
@@ -67,17 +74,20 @@ fn own_wrong(h: [u8; LENGTH]) {
 }
 
 // A take into the first bytes of a book alone.
-fn take_first(book: &mut [u8], count: usize, copy: &[u8]) -> u8 {
+fn take_first(book: &mut [u8], count: usize, copy: &[u8]) -> Taken {
     if count <= book.len() {
         return take(&mut book[0..count], copy, 2);
     }
-    0
+    Taken {
+        answer: 0,
+        changed: 0,
+    }
 }
 
 fn into_first(label: &[u8], before: [u8; LENGTH], count: usize) {
     let mut book = before;
     let answer = take_first(&mut book, count, &before);
-    line(label, answer, &before, &book);
+    reported(label, answer, &before, &book);
 }
 
 // The copy's refusals, 21 to 27, before 11; then 11.
@@ -187,17 +197,17 @@ fn last_pile(h: [u8; LENGTH]) {
     );
 }
 
-fn both_piles(label: &[u8], answer: u8, before: &[u8], after: &[u8]) {
-    outcome(label, answer, before, after);
-    pile_of(after, 5);
-    pile_of(after, 9);
+fn both_piles(book: &[u8]) {
+    pile_of(book, 5);
+    pile_of(book, 9);
     end();
 }
 
 fn merges(label: &[u8], own: [u8; LENGTH], copy: [u8; LENGTH], desk: u8) -> [u8; LENGTH] {
     let mut book = own;
     let answer = take(&mut book, &copy, desk);
-    both_piles(label, answer, &own, &book);
+    taken(label, answer, &own, &book);
+    both_piles(&book);
     book
 }
 
@@ -211,7 +221,8 @@ fn gives(
 ) -> [u8; LENGTH] {
     let mut book = before;
     let answer = give_tip(&mut book, desk, number, receiver, amount);
-    both_piles(label, answer, &before, &book);
+    outcome(label, answer, &before, &book);
+    both_piles(&book);
     book
 }
 

@@ -4,6 +4,7 @@ use crate::end;
 use crate::outcome;
 use crate::pile_of;
 use crate::rights;
+use crate::taken;
 use book::open;
 use desk::draw;
 use desk::give_draw;
@@ -13,11 +14,15 @@ use desk::tip;
 
 const LENGTH: usize = 138;
 
+fn pile_7(book: &[u8]) {
+    pile_of(book, 7);
+    rights(book, 2, 7);
+    end();
+}
+
 fn line(label: &[u8], answer: u8, before: &[u8], after: &[u8]) {
     outcome(label, answer, before, after);
-    pile_of(after, 7);
-    rights(after, 2, 7);
-    end();
+    pile_7(after);
 }
 
 fn opened() -> [u8; LENGTH] {
@@ -72,7 +77,8 @@ fn gives_tip(
 fn takes(label: &[u8], before: [u8; LENGTH], copy: [u8; LENGTH], desk: u8) {
     let mut book = before;
     let answer = take(&mut book, &copy, desk);
-    line(label, answer, &before, &book);
+    taken(label, answer, &before, &book);
+    pile_7(&book);
 }
 
 // G: F after its seven acts.

@@ -4,4 +4,3 @@ pub mod ContentsLines
 pub mod BodyTold
 pub mod RecordNumbers
 pub mod StoreLines
-pub mod LaterTold

@@ -1,4 +1,4 @@
 pub mod Queries
 pub mod Contents
 pub mod Numbers
-pub mod Later
+pub mod Comparisons

@@ -1,9 +1,10 @@
 // What a desk does to its own book: the four acts, and the take of another desk's copy.
 ghost use mathlib.Core.Path.{_≡_};
+ghost use Rattle.rules.specs.Refusals.{done};
 ghost use Rattle.rules.specs.Pile.{draw, tip};
 ghost use Rattle.rules.specs.Acts.{spend, give};
 ghost use Rattle.rules.specs.Book.{actAnswer, afterAct};
-ghost use Rattle.rules.specs.Take.{takeAnswer, afterTake};
+ghost use Rattle.rules.specs.Take.{takeAnswer, afterTake, takeReport};
 ghost use Rattle.desk.specs.Kinds.{act};
 
 // A desk tips onto a pile; refused with 1 to 7 for the book, 11, 10, 13, 14 or 15.
@@ -54,12 +55,19 @@ pub extern "C" fn pit_give_tip(
     desk::give_tip(book, desk, pile, receiver, amount)
 }
 
-// Takes a copy of another desk's book into the own one; refused with 1 to 7 for the own book, 21 to 27 for the copy, then 11, 30, and by pile and desk
-// 31 or 32.
+// Takes a copy of another desk's book into the own one, and hands out how many pile and desk pairs have another row now; refused with 1 to 7 for the own
+// book, 21 to 27 for the copy, then 11, 30, and by pile and desk 31 or 32.
 #[no_mangle]
-pub extern "C" fn pit_take(own: &mut [u8], copy: &[u8], desk: u8) -> u8
+pub extern "C" fn pit_take(own: &mut [u8], copy: &[u8], desk: u8, changed: &mut u32) -> u8
     ensures answer { λ r. ⌜ r ≡ takeAnswer desk (now (own .entry)) (now (copy .entry)) ⌝ }
-    ensures book { λ r. ⌜ now (own .exit) ≡ afterTake desk (now (own .entry)) (now (copy .entry)) ⌝ }
+    ensures book { λ _. ⌜ now (own .exit) ≡ afterTake desk (now (own .entry)) (now (copy .entry)) ⌝ }
+    ensures changed { λ _. ⌜ now (changed .exit) ≡ done (takeAnswer desk (now (own .entry)) (now (copy .entry))) (takeReport desk (now (own .entry)) (now (copy .entry))) (now (changed .entry)) ⌝ }
 {
-    desk::take(own, copy, desk)
+    let taken = desk::take(own, copy, desk);
+    let refusal = taken.answer;
+    if refusal != 0 {
+        return refusal;
+    }
+    *changed = taken.changed;
+    0
 }

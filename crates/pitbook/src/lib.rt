@@ -2,9 +2,9 @@
 // or 0 for done; a refused call changes no lent number.
 pub mod acts;
 pub mod books;
+pub mod compare;
 pub mod contents;
 mod copies;
-pub mod later;
 pub mod lists;
 pub mod queries;
 pub mod records;

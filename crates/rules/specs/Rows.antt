@@ -1,11 +1,11 @@
 -- Comparing two rows of m numbers, each read as a function of its place.
 -- Assumes nothing.
 use Prim.Native.Nat.{ℕ, suc, _*_, _/_}
-use mathlib.Core.Bool.{Bool, cond, not}
+use mathlib.Core.Bool.{Bool, true, false, cond, not}
 use mathlib.Core.List.{List, []}
 use lib.ListN.{length}
 use lib.Dec.{leb, eqb}
-use Rattle.rules.specs.Loops.{_and_, _or_, every, some}
+use Rattle.rules.specs.Loops.{_and_, every, some}
 use Rattle.rules.specs.Numbers.{number}
 use Rattle.rules.specs.Layout.{rowLength}
 
@@ -20,16 +20,37 @@ alike m f g = every m (λ c. eqb (f c) (g c))
 unfoldable pub later : ℕ → (ℕ → ℕ) → (ℕ → ℕ) → Bool
 later m f g = atLeast m f g and not (alike m f g)
 
+-- What comparing two rows of a desk tells, mine and the copy's: they are alike, mine is later, the copy's is later, or they are split. Rows that
+-- cannot be compared meet a refusal's number alone.
+pub data Comparison : Type 0 where
+  bothAlike mineLater copyLater bothSplit : Comparison
+  refused : ℕ → Comparison
+
 -- Split: the rows differ with neither later (a fork: the desk acted twice from one old book).
-unfoldable pub split : ℕ → (ℕ → ℕ) → (ℕ → ℕ) → Bool
-split m f g = not (alike m f g) and not (later m f g) and not (later m g f)
+unfoldable pub rowOrder : ℕ → (ℕ → ℕ) → (ℕ → ℕ) → Comparison
+rowOrder m mine copy = cond (alike m mine copy) bothAlike (cond (later m mine copy) mineLater (cond (later m copy mine) copyLater bothSplit))
 
--- What comparing two rows tells: they are alike, the first is later, the second is, or they are split.
-pub data Order : Type 0 where
-  bothAlike firstLater secondLater bothSplit : Order
+-- does a comparison tell that the rows are alike; that the copy's is later; that they are split
+abbrev pub isAlike : Comparison → Bool
+isAlike bothAlike = true
+isAlike mineLater = false
+isAlike copyLater = false
+isAlike bothSplit = false
+isAlike (refused number) = false
 
-unfoldable pub rowOrder : ℕ → (ℕ → ℕ) → (ℕ → ℕ) → Order
-rowOrder m f g = cond (alike m f g) bothAlike (cond (later m f g) firstLater (cond (later m g f) secondLater bothSplit))
+abbrev pub isCopyLater : Comparison → Bool
+isCopyLater bothAlike = false
+isCopyLater mineLater = false
+isCopyLater copyLater = true
+isCopyLater bothSplit = false
+isCopyLater (refused number) = false
+
+abbrev pub isSplit : Comparison → Bool
+isSplit bothAlike = false
+isSplit mineLater = false
+isSplit copyLater = false
+isSplit bothSplit = true
+isSplit (refused number) = false
 
 -- the numbers of a row that stands in bytes, and how many they are
 abbrev pub numbersOf : List ℕ → ℕ → ℕ
@@ -42,18 +63,23 @@ places row = length row / 4
 unfoldable pub isRowLength : ℕ → Bool
 isRowLength ℓ = some 8 (λ k. eqb ℓ (rowLength (suc k)))
 
--- the later of two rows that are not split, or the common one
+-- Comparing two rows that stand in bytes. Rows that differ in length, or have the length of no row, meet 3.
+unfoldable pub compared : List ℕ → List ℕ → Comparison
+compared mine copy =
+    cond (isRowLength (length mine) and eqb (length mine) (length copy)) (rowOrder (places mine) (numbersOf mine) (numbersOf copy)) (refused 3)
+
+-- The later of two rows, handed on as a part of whichever book has it; of two alike rows the first. It is empty where the rows are split, differ
+-- in length or have the length of no row.
+abbrev pub handedOn : Comparison → List ℕ → List ℕ → List ℕ
+handedOn bothAlike mine copy = mine
+handedOn mineLater mine copy = mine
+handedOn copyLater mine copy = copy
+handedOn bothSplit mine copy = []
+handedOn (refused number) mine copy = []
+
+abbrev pub laterRow : List ℕ → List ℕ → List ℕ
+laterRow mine copy = handedOn (compared mine copy) mine copy
+
+-- what stands in the place of my row once the copy's has been taken: the later of two rows that are not split, or the common one
 abbrev pub laterOf : List ℕ → List ℕ → List ℕ
-laterOf a b = cond (later (places a) (numbersOf b) (numbersOf a)) b a
-
--- The later of two rows, handed on as a part of whichever book has it; of two alike rows the first. It is empty where the rows
--- differ in length, have the length of no row, or are split.
-unfoldable pub laterRow : List ℕ → List ℕ → List ℕ
-laterRow a b =
-    cond (not (isRowLength (length a)) or not (eqb (length a) (length b)) or split (places a) (numbersOf a) (numbersOf b)) []
-    (laterOf a b)
-
--- is the second of two rows the one handed on: rows of one length of a row, the second later
-unfoldable pub secondHandedOn : List ℕ → List ℕ → Bool
-secondHandedOn a b =
-    isRowLength (length a) and eqb (length a) (length b) and later (places a) (numbersOf b) (numbersOf a)
+laterOf mine copy = cond (isCopyLater (compared mine copy)) copy mine

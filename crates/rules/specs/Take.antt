@@ -4,12 +4,12 @@ use Prim.Native.Nat.{ℕ, zero, suc, _+_}
 use mathlib.Core.Bool.{Bool, not}
 use mathlib.Core.List.{List, _++_}
 use lib.Dec.{ltb, eqb}
-use Rattle.rules.specs.Loops.{_and_, every, flat}
+use Rattle.rules.specs.Loops.{_and_, every, flat, sum, count}
 use Rattle.rules.specs.Refusals.{_when_, _orElse_, first, done}
 use Rattle.rules.specs.Numbers.{part}
 use Rattle.rules.specs.Pile.{sameOpening}
 use Rattle.rules.specs.Layout.{rowLength, bodyAt, cellAt, desks, piles, pileNumber, pileOf}
-use Rattle.rules.specs.Rows.{later, split, numbersOf, places, laterRow}
+use Rattle.rules.specs.Rows.{Comparison, isAlike, isCopyLater, isSplit, compared, laterRow}
 use Rattle.rules.specs.Book.{bookAnswer}
 
 -- row r of pile k, as a part of its book: row 0 is the opening, row i + 1 desk i's
@@ -28,11 +28,9 @@ sameBook own copy =
     and eqb (piles own) (piles copy)
     and every (piles own) (λ k. eqb (pileNumber own k) (pileNumber copy k) and sameOpening (desks own) (pileOf own k) (pileOf copy k))
 
--- "by pile, then by desk": 31, and at the taker's own desk 32
-unfoldable pub rowAnswer : Bool → List ℕ → List ℕ → ℕ
-rowAnswer mine own copy =
-    31 when split (places own) (numbersOf own) (numbersOf copy)
-    orElse 32 when (mine and later (places own) (numbersOf copy) (numbersOf own))
+-- "by pile, then by desk": 31, and at the taker's own desk 32, by what comparing the own row and the copy's tells
+unfoldable pub rowAnswer : Bool → Comparison → ℕ
+rowAnswer mine rows = 31 when isSplit rows orElse 32 when (isCopyLater rows and mine)
 
 unfoldable pub takeAnswer : ℕ → List ℕ → List ℕ → ℕ
 takeAnswer d own copy =
@@ -40,7 +38,7 @@ takeAnswer d own copy =
     orElse ofCopy (bookAnswer copy)
     orElse 11 when not (ltb d (desks own))
     orElse 30 when not (sameBook own copy)
-    orElse first (piles own) (λ k. first (desks own) (λ i. rowAnswer (eqb i d) (rowPart own k (suc i)) (rowPart copy k (suc i))))
+    orElse first (piles own) (λ k. first (desks own) (λ i. rowAnswer (eqb i d) (compared (rowPart own k (suc i)) (rowPart copy k (suc i)))))
 
 -- the taken book: for each pile and desk the later row, or the common row; all else is the taker's own
 unfoldable pub takenRow : List ℕ → List ℕ → ℕ → ℕ → List ℕ
@@ -53,3 +51,14 @@ taken own copy =
 
 unfoldable pub afterTake : ℕ → List ℕ → List ℕ → List ℕ
 afterTake d own copy = done (takeAnswer d own copy) (taken own copy) own
+
+-- is the row of a pile and desk another in the second of two books than in the first; and how many such pairs of a pile and a desk are there
+unfoldable pub rowChanged : List ℕ → List ℕ → ℕ → ℕ → Bool
+rowChanged before after k i = not (isAlike (compared (rowPart before k (suc i)) (rowPart after k (suc i))))
+
+unfoldable pub changedRows : List ℕ → List ℕ → ℕ
+changedRows before after = sum (piles before) (λ k. count (desks before) (rowChanged before after k))
+
+-- what an accepted take reports: the number of pile and desk pairs whose row changed; 0 beside a refusal's number
+unfoldable pub takeReport : ℕ → List ℕ → List ℕ → ℕ
+takeReport d own copy = done (takeAnswer d own copy) (changedRows own (taken own copy)) 0

@@ -118,12 +118,12 @@ fn cases(pass: &Pass, size: &Size) {
     });
     // A single desk has no row that a copy may have later.
     if size.desks > 1 {
-        pass.case("take, all rows", size, &older, true, 0, |v, book, _| {
-            (v.take)(book, &newer_elsewhere, desk)
+        pass.case("take, all rows", size, &older, true, 0, |v, book, lent| {
+            (v.take)(book, &newer_elsewhere, desk, &mut lent.number)
         });
     }
-    pass.case("take, no row", size, &newer, false, 0, |v, book, _| {
-        (v.take)(book, &older, desk)
+    pass.case("take, no row", size, &newer, false, 0, |v, book, lent| {
+        (v.take)(book, &older, desk, &mut lent.number)
     });
     pass.case("fetch", size, &newer, false, 0, |v, book, lent| {
         (v.fetch)(book, pile, &mut lent.record)
@@ -140,6 +140,23 @@ fn cases(pass: &Pass, size: &Size) {
     pass.case("least", size, &newer, false, 0, |v, book, lent| {
         (v.least)(book, desk, pile, &mut lent.number)
     });
+}
+
+/// Two rows, one behind the other, of 1, 3 and 8 desks: the copy's later at its
+/// last place; and two of no book's length.
+fn rows(pass: &Pass) {
+    let call = |v: &Version, rows: &mut [u8], lent: &mut Lent| {
+        let (mine, copy) = rows.split_at(rows.len() / 2);
+        (v.compare)(mine, copy, &mut lent.number)
+    };
+    for desks in [1, 3, 8] {
+        let length = 8 * (desks + 1);
+        let mut rows = [3, 0, 0, 0].repeat(length / 2);
+        rows[2 * length - 4] = 4;
+        let name = format!("rows of {desks}");
+        pass.named(&format!("{name}, compared"), &rows, false, 0, call);
+    }
+    pass.named("rows refused", &[0; 160], false, 3, call);
 }
 
 /// Tickets, which have no desks and piles: one that is read, one whose desk is
@@ -215,6 +232,7 @@ fn main() {
     for size in &SIZES {
         cases(&Pass::Agree, size);
     }
+    rows(&Pass::Agree);
     tickets(&Pass::Agree);
     reconciliations(&Pass::Agree);
     println!("All three versions agree on the prepared inputs.\n");
@@ -230,13 +248,14 @@ fn main() {
     };
     println!("Nanoseconds a call, by desks × piles: median (interquartile range).");
     println!(
-        "Ratios are medians over rounds; a byte is one of the book, the ticket or both lists.\n"
+        "Ratios are medians over rounds; a byte is one of the book, both rows, the ticket or both lists.\n"
     );
     println!("| call | ours | plain | specialised | ours/plain | ours/specialised | ns a byte |");
     println!("|---|--:|--:|--:|--:|--:|--:|");
     for size in &SIZES {
         cases(&pass, size);
     }
+    rows(&pass);
     tickets(&pass);
     reconciliations(&pass);
 }

@@ -255,29 +255,40 @@ fn act(
     Ok(())
 }
 
-/// How the copy's row stands to the taker's own.
-enum Standing {
-    Earlier,
-    Later,
+/// What comparing two rows tells.
+#[derive(Clone, Copy)]
+enum Order {
+    Alike = 1,
+    MineLater,
+    CopyLater,
     Split,
 }
 
-fn standing(own: &[u8], copy: &[u8]) -> Standing {
-    let (mut own_ahead, mut copy_ahead) = (false, false);
-    for place in 0..own.len() / 4 {
-        let (own, copy) = (number(own, place), number(copy, place));
-        own_ahead |= own > copy;
-        copy_ahead |= copy > own;
+fn order(mine: &[u8], copy: &[u8]) -> Order {
+    let (mut mine_ahead, mut copy_ahead) = (false, false);
+    for place in 0..mine.len() / 4 {
+        let (mine, copy) = (number(mine, place), number(copy, place));
+        mine_ahead |= mine > copy;
+        copy_ahead |= copy > mine;
     }
-    match (own_ahead, copy_ahead) {
-        (true, true) => Standing::Split,
-        (false, true) => Standing::Later,
-        // Of two alike rows the own one stays.
-        _ => Standing::Earlier,
+    match (mine_ahead, copy_ahead) {
+        (false, false) => Order::Alike,
+        (true, false) => Order::MineLater,
+        (false, true) => Order::CopyLater,
+        (true, true) => Order::Split,
     }
 }
 
-fn taken(own: &mut [u8], copy: &[u8], desk: u8) -> Result<(), u8> {
+pub fn compare(mine: &[u8], copy: &[u8], out: &mut u32) -> u8 {
+    let is_row = mine.len() % 8 == 0 && (16..=72).contains(&mine.len());
+    if !is_row || mine.len() != copy.len() {
+        return 3;
+    }
+    *out = order(mine, copy) as u32;
+    0
+}
+
+fn taken(own: &mut [u8], copy: &[u8], desk: u8) -> Result<u32, u8> {
     let head = checked(own)?;
     let copy_head = checked(copy).map_err(|refusal| refusal + 20)?;
     let desk = usize::from(desk);
@@ -307,11 +318,11 @@ fn taken(own: &mut [u8], copy: &[u8], desk: u8) -> Result<(), u8> {
         for row in 0..head.desks {
             let at = pile * head.body() + head.row_position(row);
             let range = at..at + head.row();
-            match standing(&own[range.clone()], &copy[range]) {
-                Standing::Split => return Err(31),
-                Standing::Later if row == desk => return Err(32),
-                Standing::Later => *later |= 1 << row,
-                Standing::Earlier => {}
+            match order(&own[range.clone()], &copy[range]) {
+                Order::Split => return Err(31),
+                Order::CopyLater if row == desk => return Err(32),
+                Order::CopyLater => *later |= 1 << row,
+                Order::Alike | Order::MineLater => {}
             }
         }
     }
@@ -321,7 +332,7 @@ fn taken(own: &mut [u8], copy: &[u8], desk: u8) -> Result<(), u8> {
             own[at..at + head.row()].copy_from_slice(&copy[at..at + head.row()]);
         }
     }
-    Ok(())
+    Ok(later.iter().map(|later| later.count_ones()).sum())
 }
 
 fn opened(desks: u8, piles: u8, list: &[u32], out: &mut [u8]) -> Result<(), u8> {
@@ -433,8 +444,8 @@ pub fn give_tip(book: &mut [u8], desk: u8, pile: u16, receiver: u8, amount: u32)
     answer(act(book, desk, pile, Side::Tip, Some(receiver), amount))
 }
 
-pub fn take(own: &mut [u8], copy: &[u8], desk: u8) -> u8 {
-    answer(taken(own, copy, desk))
+pub fn take(own: &mut [u8], copy: &[u8], desk: u8, changed: &mut u32) -> u8 {
+    answer(taken(own, copy, desk).map(|pairs| *changed = pairs))
 }
 
 pub fn tonnage(book: &[u8], pile: u16, out: &mut u32) -> u8 {

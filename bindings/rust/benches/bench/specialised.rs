@@ -372,7 +372,7 @@ fn take_n<const N: usize, const R: usize, const B: usize>(
     own: &mut [u8],
     copy: &[u8],
     desk: u8,
-) -> Result<(), u8> {
+) -> Result<u32, u8> {
     checked::<N, R, B>(own)?;
     desks(copy)
         .and_then(|desks| for_desks!(desks, checked(copy)))
@@ -414,17 +414,38 @@ fn take_n<const N: usize, const R: usize, const B: usize>(
             }
         };
     }
+    let mut changed = 0;
     for ((own, copy), mark) in own.iter_mut().zip(copy).zip(marks) {
         if mark == WHOLE {
+            let rows = own.as_chunks::<R>().0.iter().zip(copy.as_chunks::<R>().0);
+            changed += rows.map(|(own, copy)| u32::from(own != copy)).sum::<u32>();
             *own = *copy;
         } else if mark != 0 {
+            changed += mark.count_ones();
             let (own, copy) = (own.as_chunks_mut::<R>().0, copy.as_chunks::<R>().0);
             for desk in (0..N).filter(|desk| mark >> desk & 1 == 1) {
                 own[1 + desk] = copy[1 + desk];
             }
         }
     }
-    Ok(())
+    Ok(changed)
+}
+
+/// Any numbers, and so without the room above them that `ahead` needs.
+fn compare_n<const N: usize, const R: usize, const B: usize>(
+    mine: &[u8],
+    copy: &[u8],
+) -> Result<u32, u8> {
+    let (Ok(mine), Ok(copy)) = (<&[u8; R]>::try_from(mine), <&[u8; R]>::try_from(copy)) else {
+        return Err(3);
+    };
+    let (mut mine_ahead, mut copy_ahead) = (0, 0);
+    for (mine, copy) in mine.as_chunks::<4>().0.iter().zip(copy.as_chunks::<4>().0) {
+        let (mine, copy) = (u32::from_le_bytes(*mine), u32::from_le_bytes(*copy));
+        mine_ahead |= u32::from(mine > copy);
+        copy_ahead |= u32::from(copy > mine);
+    }
+    Ok(1 + mine_ahead + 2 * copy_ahead)
 }
 
 fn tonnage_n<const N: usize, const R: usize, const B: usize>(
@@ -599,9 +620,19 @@ pub fn give_tip(book: &mut [u8], desk: u8, pile: u16, receiver: u8, amount: u32)
     act(book, desk, pile, Side::Tip, Some(receiver), amount)
 }
 
-pub fn take(own: &mut [u8], copy: &[u8], desk: u8) -> u8 {
+pub fn take(own: &mut [u8], copy: &[u8], desk: u8, changed: &mut u32) -> u8 {
     let n = desks(own);
-    answer(n.and_then(|desks| for_desks!(desks, take_n(own, copy, desk))))
+    let taken = n.and_then(|desks| for_desks!(desks, take_n(own, copy, desk)));
+    answer(taken.map(|pairs| *changed = pairs))
+}
+
+pub fn compare(mine: &[u8], copy: &[u8], out: &mut u32) -> u8 {
+    // A row of n desks has 8(n + 1) bytes; lengths of no row are told apart in `compare_n`.
+    let order = match mine.len().div_ceil(8).wrapping_sub(1) {
+        desks @ 1..=8 => for_desks!(desks, compare_n(mine, copy)),
+        _ => Err(3),
+    };
+    answer(order.map(|order| *out = order))
 }
 
 pub fn tonnage(book: &[u8], pile: u16, out: &mut u32) -> u8 {

@@ -1,7 +1,8 @@
 //! What a book hands out: contents, bodies, records, rows.
 
 use crate::{f, g, two_piles};
-use pitbook::{Entry, Opening, RECORD_NUMBERS, Record, Refusal, Row, later_row, row_length};
+use pitbook::{Entry, Opening, RECORD_NUMBERS, Record, Refusal, Row, RowOrder};
+use pitbook::{compare_rows, later_row, row_length};
 
 #[test]
 fn contents_and_bodies() {
@@ -105,6 +106,24 @@ fn refused_stores() {
     assert_eq!(refused(7, lost), Refusal::OpeningUnlawful);
     let moved = |r: &mut Record| (r.floor, r.top) = (11, 111);
     assert_eq!(refused(7, moved), Refusal::OpeningDiffers);
+}
+
+#[test]
+fn compared_rows() {
+    let (f, g) = (f(), g());
+    let mut other = f.clone();
+    other.tip(0, 7, 31).unwrap();
+    let row = row_length(3);
+    let [f0, g0, other0] = [&f, &g, &other].map(|book| &book.body(7).unwrap()[row..2 * row]);
+    assert_eq!(compare_rows(g0, g0), Ok(RowOrder::Alike));
+    assert_eq!(compare_rows(g0, f0), Ok(RowOrder::MineLater));
+    assert_eq!(compare_rows(f0, g0), Ok(RowOrder::CopyLater));
+    assert_eq!(compare_rows(g0, other0), Ok(RowOrder::Split));
+    let wrong = Err(Refusal::LengthWrong);
+    assert_eq!(compare_rows(f0, &g0[..row - 8]), wrong);
+    assert_eq!(compare_rows(&f0[1..], &g0[1..]), wrong);
+    assert_eq!(compare_rows(&[], &[]), wrong);
+    assert_eq!(compare_rows(&[0; 80], &[0; 80]), wrong);
 }
 
 #[test]

@@ -85,8 +85,17 @@ fn rows() {
     for length in 0..100 {
         let (a, b) = (vec![0; length], vec![1; length]);
         let is_row = length % 8 == 0 && (16..=72).contains(&length);
-        assert_eq!(raw::later(&a, &b), if is_row { 2 } else { 0 });
-        assert_eq!(raw::later(&a, &a), if is_row { 1 } else { 0 });
-        assert_eq!(raw::later(&a, &b[..length / 2]), 0);
+        let compared = |mine: &[u8], copy: &[u8]| {
+            let mut order = 9;
+            (raw::compare(mine, copy, &mut order), order)
+        };
+        let orders = [(&a, &a, 1), (&b, &a, 2), (&a, &b, 3)];
+        for (mine, copy, order) in orders {
+            let due = if is_row { (0, order) } else { (3, 9) };
+            assert_eq!(compared(mine, copy), due);
+        }
+        if length > 0 {
+            assert_eq!(compared(&a, &b[..length / 2]), (3, 9));
+        }
     }
 }

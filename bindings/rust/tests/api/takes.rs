@@ -6,7 +6,7 @@ use pitbook::{Opening, Refusal};
 #[test]
 fn h_to_j() {
     let mut book = g();
-    assert_eq!(book.take(&f(), 0), Ok(()));
+    assert_eq!(book.take(&f(), 0), Ok(0));
     assert_eq!(book, g());
 
     let mut book = f();
@@ -28,12 +28,36 @@ fn rows_of_every_pile_once() {
     own.tip(1, 3, 2).unwrap();
     copy.tip(0, 3, 30).unwrap();
     copy.draw(0, 500, 4).unwrap();
-    for _ in 0..2 {
-        own.take(&copy, 1).unwrap();
+    for changed in [2, 0] {
+        assert_eq!(own.take(&copy, 1), Ok(changed));
         assert_eq!((own.tonnage(3), own.tonnage(500)), (Ok(62), Ok(6)));
     }
-    copy.take(own.as_bytes(), 0).unwrap();
+    assert_eq!(copy.take(own.as_bytes(), 0), Ok(1));
     assert_eq!(copy, own);
+}
+
+/// What changed is counted by pile and desk.
+#[test]
+fn news_of_two_desks_on_three_piles() {
+    let shares = [10, 10, 10];
+    let mut opening = Opening::new(3);
+    for number in 1..=3 {
+        opening = opening.pile(number, 0, 60, &shares, &shares);
+    }
+    let mut own = opening.to_book().unwrap();
+    let mut copy = own.clone();
+    own.draw(0, 2, 1).unwrap();
+    for pile in 1..=3 {
+        copy.tip(1, pile, 1).unwrap();
+        copy.draw(2, pile, 1).unwrap();
+    }
+    assert_eq!(own.take(&copy, 0), Ok(6));
+    assert_eq!(own.take(&copy, 0), Ok(0));
+    // Two acts of a desk on a pile change one row.
+    copy.tip(1, 3, 1).unwrap();
+    copy.draw(1, 3, 1).unwrap();
+    copy.tip(2, 3, 1).unwrap();
+    assert_eq!(own.take(&copy, 0), Ok(2));
 }
 
 #[test]

@@ -57,6 +57,19 @@ fn position(book: &[u8], pile: u16) -> Option<usize> {
     Some(u32::from_le_bytes([entry[2], entry[3], entry[4], entry[5]]) as usize)
 }
 
+/// How many rows of desks differ between two books of one opening: bodies are
+/// "without gaps", each an opening row and then n rows.
+pub fn changed_rows(before: &[u8], after: &[u8]) -> u32 {
+    let (n, p) = (usize::from(before[1]), usize::from(before[2]));
+    let rows = |book: &[u8]| -> Vec<Vec<u8>> {
+        let bodies = book[4 + 6 * p..].chunks(8 * (n + 1) * (n + 1));
+        let rows = bodies.flat_map(|body| body.chunks(8 * (n + 1)).skip(1));
+        rows.map(<[u8]>::to_vec).collect()
+    };
+    let pairs = rows(before).into_iter().zip(rows(after));
+    pairs.filter(|(old, new)| old != new).count() as u32
+}
+
 /// The place, counted in 4-byte numbers from the body's start, of the one
 /// tally that an act adds to: "in the acting desk's row of that pile".
 fn tally_place(n: usize, act: &Act) -> usize {

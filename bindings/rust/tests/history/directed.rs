@@ -220,7 +220,7 @@ fn acting_twice_from_one_old_book_is_split() {
     assert_eq!(raw::give_tip(&mut own, 0, 7, 1, 5), 0);
     assert_eq!(raw::tip(&mut copy, 0, 7, 30), 0);
     let before = own.clone();
-    assert_eq!(raw::take(&mut own, &copy, 1), 31);
+    assert_eq!(raw::take(&mut own, &copy, 1, &mut 0), 31);
     assert!(own == before);
 }
 

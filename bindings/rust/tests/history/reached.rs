@@ -42,7 +42,7 @@ impl Run {
     /// A take from a desk's newest book.
     fn take(&mut self, desk: usize, of: usize) -> u8 {
         let copy = self.books[of].clone();
-        raw::take(&mut self.books[desk], &copy, desk as u8)
+        raw::take(&mut self.books[desk], &copy, desk as u8, &mut 0)
     }
 
     fn tonnage(&self, pile: u16) -> i64 {

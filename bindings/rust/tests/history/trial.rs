@@ -1,6 +1,6 @@
 //! One history, run on the compiled library and in the ledger side by side. At
-//! each moment the five parts of demand 3 are checked, and what a desk can be
-//! sure of:
+//! each moment the five parts of demand 3 are checked, what a desk can be sure
+//! of, and what a take reports:
 //!
 //! 1. each desk's book is byte for byte the lone dispatcher's for its set;
 //! 2. along that lone run no act is refused, and after each act every pile is
@@ -9,10 +9,12 @@
 //! 4. an act's answer is its answer at the lone dispatcher's book;
 //! 5. a take is answered 0;
 //! 6. on each pile, the tonnage by all acts made so far lies between the least
-//!    and the most of each desk, by its own newest book.
+//!    and the most of each desk, by its own newest book;
+//! 7. a take reports the pairs of a pile and a desk whose row changed, and 0
+//!    exactly when the book's bytes are unaltered.
 
 use super::act::{Act, Call, Kind};
-use super::book::{Body, Opening};
+use super::book::{Body, Opening, changed_rows};
 use super::ledger::unlawful;
 use super::ledger::{Ledger, Set};
 use super::summary::Summary;
@@ -97,16 +99,24 @@ impl Trial {
         &self.books[usize::from(desk)]
     }
 
-    /// One call, at the library and in the ledger. Panics if a part of demand 3
-    /// breaks, else tells the answer.
+    /// One call, at the library and in the ledger. Panics if a part breaks, else
+    /// tells the answer.
     pub fn step(&mut self, call: Call) -> u8 {
         let desk = call.desk();
         let due = self.ledger.feed(call);
+        let mut broken = Vec::new();
         let (part, answer) = match call {
             Call::Act(act) => (4, enter(&mut self.books[desk], &act)),
             Call::Take { of, moment, .. } => {
                 let copy = &self.copies[moment][usize::from(of)];
-                (5, raw::take(&mut self.books[desk], copy, desk as u8))
+                let (book, mut changed) = (&mut self.books[desk], u32::MAX);
+                let before = book.clone();
+                let answer = raw::take(book, copy, desk as u8, &mut changed);
+                let due = changed_rows(&before, book);
+                if changed != due || (changed == 0) != (before == *book) {
+                    broken.push(format!("part 7: report {changed}, due {due}"));
+                }
+                (5, answer)
             }
         };
         self.answers.push(answer);
@@ -114,7 +124,6 @@ impl Trial {
         copies[desk] = Rc::from(&self.books[desk][..]);
         self.copies.push(copies);
 
-        let mut broken = Vec::new();
         if answer != due {
             broken.push(format!("part {part}: answer {answer}, due {due}"));
         }

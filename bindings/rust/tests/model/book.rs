@@ -59,6 +59,15 @@ impl Opening {
     }
 }
 
+/// What comparing two rows tells, by the number that the library hands out.
+#[derive(Clone, Copy, Debug, PartialEq, Eq)]
+pub enum Order {
+    Alike = 1,
+    MineLater = 2,
+    CopyLater = 3,
+    Split = 4,
+}
+
 impl Row {
     pub fn empty(desks: usize) -> Row {
         Row {
@@ -88,16 +97,25 @@ impl Row {
 
     /// "later than another if it is at least the other at every place and
     /// differs from it"
-    pub fn is_later_than(&self, other: &Row) -> bool {
+    fn is_later_than(&self, other: &Row) -> bool {
         let ours = self.to_numbers();
         let theirs = other.to_numbers();
         let at_least = ours.iter().zip(&theirs).all(|(our, their)| our >= their);
         at_least && ours != theirs
     }
 
-    /// "Rows that differ with neither later are split"
-    pub fn is_split_from(&self, other: &Row) -> bool {
-        self != other && !self.is_later_than(other) && !other.is_later_than(self)
+    /// 5/12: "alike, mine later, the copy's later, split"
+    pub fn order(&self, copy: &Row) -> Order {
+        if self == copy {
+            Order::Alike
+        } else if self.is_later_than(copy) {
+            Order::MineLater
+        } else if copy.is_later_than(self) {
+            Order::CopyLater
+        } else {
+            // "Rows that differ with neither later are split"
+            Order::Split
+        }
     }
 }
 

@@ -15,7 +15,7 @@ pub mod tickets;
 mod worked;
 
 use acts::{Act, Kind};
-use book::{Book, Opening, Pile, Row};
+use book::{Book, Opening, Order, Pile, Row};
 use tickets::Ticket;
 
 // Table, place "Opening".
@@ -153,7 +153,7 @@ fn act_on_bytes(book: &mut [u8], desk: u8, pile: u16, kind: Kind, amount: u32) -
 }
 
 // Table, places "Take" and "Take, by pile, then by desk".
-pub fn take(own: &mut [u8], copy: &[u8], desk: u8) -> u8 {
+pub fn take(own: &mut [u8], copy: &[u8], desk: u8, changed: &mut u32) -> u8 {
     // "own book's,"
     let mut taken = match bytes::parse(own) {
         Ok(parsed) => parsed,
@@ -178,26 +178,28 @@ pub fn take(own: &mut [u8], copy: &[u8], desk: u8) -> u8 {
             return 30;
         }
     }
+    let before = taken.clone();
     // "by pile, then by desk"
     for (ours, theirs) in taken.piles.iter_mut().zip(&copied.piles) {
         for i in 0..copied.desks {
             let our_row = &ours.rows[i];
             let their_row = &theirs.rows[i];
-            // "31: rows split."
-            if our_row.is_split_from(their_row) {
-                return 31;
-            }
-            // "32: the copy's row of the taker's own desk is later"
-            if i == taker && their_row.is_later_than(our_row) {
-                return 32;
-            }
-            // "the later row, or the common row"
-            if their_row.is_later_than(our_row) {
-                ours.rows[i] = their_row.clone();
+            match our_row.order(their_row) {
+                // "31: rows split."
+                Order::Split => return 31,
+                // "32: the copy's row of the taker's own desk is later"
+                Order::CopyLater if i == taker => return 32,
+                // "the later row, or the common row"
+                Order::CopyLater => ours.rows[i] = their_row.clone(),
+                Order::Alike | Order::MineLater => {}
             }
         }
     }
     own.copy_from_slice(&bytes::print(&taken));
+    // 5/12: "the number of pile and desk pairs whose row changed"
+    let piles = before.piles.iter().zip(&taken.piles);
+    let pairs = piles.flat_map(|(old, new)| old.rows.iter().zip(&new.rows));
+    *changed = pairs.filter(|(old, new)| old != new).count() as u32;
     0
 }
 
@@ -319,28 +321,21 @@ pub fn store(book: &mut [u8], pile: u16, record: &[u32]) -> u8 {
     0
 }
 
-// "In a take the later of two rows is handed on": 0 is the empty part, 1 the
-// first row, 2 the second.
-pub fn later(a: &[u8], b: &[u8]) -> u8 {
+// 5/12: "alike, mine later, the copy's later, split", as 1 to 4. "Rows of
+// lengths for which document 01 hands on an empty part meet 3."
+pub fn compare(mine: &[u8], copy: &[u8], order: &mut u32) -> u8 {
     // "differ in length"
-    if a.len() != b.len() {
-        return 0;
+    if mine.len() != copy.len() {
+        return 3;
     }
     // "a length other than 8(n + 1) bytes for an n from 1 to 8"
-    let Some(n) = (1..=8).find(|n| 8 * (n + 1) == a.len()) else {
-        return 0;
+    let Some(n) = (1..=8).find(|n| 8 * (n + 1) == mine.len()) else {
+        return 3;
     };
-    let first = Row::from_numbers(n, &bytes::numbers(a));
-    let second = Row::from_numbers(n, &bytes::numbers(b));
-    // "the two rows are split"
-    if first.is_split_from(&second) {
-        return 0;
-    }
-    if second.is_later_than(&first) {
-        return 2;
-    }
-    // The first is later, or "of two alike rows the first is handed on."
-    1
+    let mine = Row::from_numbers(n, &bytes::numbers(mine));
+    let copy = Row::from_numbers(n, &bytes::numbers(copy));
+    *order = mine.order(&copy) as u32;
+    0
 }
 
 pub fn read_ticket(

@@ -174,13 +174,15 @@ fn cases_e_to_g() {
 #[test]
 fn cases_h_to_j() {
     // h: desk 0 takes F into G: G unaltered.
+    let mut changed = 9;
     let mut book = G;
-    assert_eq!(take(&mut book, &F, 0), 0);
-    assert_eq!(book, G);
+    assert_eq!(take(&mut book, &F, 0, &mut changed), 0);
+    assert_eq!((book, changed), (G, 0));
     // i: desk 2 takes G into F: 32.
+    changed = 9;
     let mut book = F;
-    assert_eq!(take(&mut book, &G, 2), 32);
-    assert_eq!(book, F);
+    assert_eq!(take(&mut book, &G, 2, &mut changed), 32);
+    assert_eq!((book, changed), (F, 9));
     // j: desk 1 takes "F, desk 0 tips 30" into "F, desk 0 tips 10, gives tip 5
     // to desk 1": 31.
     let mut copy = F;
@@ -189,12 +191,18 @@ fn cases_h_to_j() {
     assert_eq!(tip(&mut own, 0, PILE, 10), 0);
     assert_eq!(give_tip(&mut own, 0, PILE, 1, 5), 0);
     let before = own;
-    assert_eq!(take(&mut own, &copy, 1), 31);
-    assert_eq!(own, before);
-    assert_eq!(later(&own[42..74], &copy[42..74]), 0);
-    assert_eq!(later(&F[42..74], &G[42..74]), 2);
-    assert_eq!(later(&G[42..74], &F[42..74]), 1);
-    assert_eq!(later(&G[42..74], &G[42..74]), 1);
+    assert_eq!(take(&mut own, &copy, 1, &mut changed), 31);
+    assert_eq!((own, changed), (before, 9));
+    // The rows of desk 0.
+    let order = |mine: &[u8], copy: &[u8]| {
+        let mut order = 0;
+        assert_eq!(compare(&mine[42..74], &copy[42..74], &mut order), 0);
+        order
+    };
+    assert_eq!(order(&own, &copy), 4);
+    assert_eq!(order(&F, &G), 3);
+    assert_eq!(order(&G, &F), 2);
+    assert_eq!(order(&G, &G), 1);
 }
 
 #[test]

@@ -17,7 +17,7 @@ pub fn random(place: Place, chance: &mut Chance) -> Case {
     match place {
         Place::Open => open(chance),
         Place::Take => take(chance),
-        Place::Later => later(chance),
+        Place::Compare => compare(chance),
         Place::ReadTicket => tickets::read(chance),
         Place::WriteTicket => tickets::written(chance),
         Place::Reconcile => lists::random(chance),
@@ -97,10 +97,11 @@ fn take(chance: &mut Chance) -> Case {
     }
     case.lent.book = printed_or_damaged(chance, &own, 6);
     case.lent.copy = printed_or_damaged(chance, &copy, 5);
+    case.lent.numbers = chance.numbers(1);
     case
 }
 
-fn later(chance: &mut Chance) -> Case {
+fn compare(chance: &mut Chance) -> Case {
     let length = match chance.below(4) {
         // 8(n + 1) bytes for n from 1 to 8, then for 0 and from 9 on.
         0 | 1 => 8 * (2 + chance.below(8)),
@@ -115,7 +116,7 @@ fn later(chance: &mut Chance) -> Case {
         })
         .collect();
     let mut rows = [start.clone(), start];
-    // Raised at some places of the first, the second or both.
+    // Raised at some places of mine, of the copy's or of both.
     let raised = chance.below(5);
     for _ in 0..chance.below(4) {
         let at = chance.below(rows[0].len());
@@ -140,10 +141,11 @@ fn later(chance: &mut Chance) -> Case {
             _ => rows[row] = chance.bytes(length),
         }
     }
-    let [first, second] = rows;
-    let mut case = Case::at(Place::Later);
-    case.lent.book = first;
-    case.lent.copy = second;
+    let [mine, copy] = rows;
+    let mut case = Case::at(Place::Compare);
+    case.lent.book = mine;
+    case.lent.copy = copy;
+    case.lent.numbers = chance.numbers(1);
     case
 }
 

@@ -70,7 +70,7 @@ pub fn judge(case: &Case, seed: u64, number: u64, model: &Outcome, library: &Out
             model.answer
         );
     }
-    if case.place.is_done(library.answer) {
+    if library.answer == 0 {
         return;
     }
     if let Some(difference) = case.lent.difference(&library.lent) {

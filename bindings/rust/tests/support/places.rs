@@ -20,7 +20,7 @@ pub enum Place {
     Most,
     Fetch,
     Store,
-    Later,
+    Compare,
     ReadTicket,
     WriteTicket,
     Reconcile,
@@ -43,7 +43,7 @@ pub const PLACES: [Place; 20] = [
     Place::Most,
     Place::Fetch,
     Place::Store,
-    Place::Later,
+    Place::Compare,
     Place::ReadTicket,
     Place::WriteTicket,
     Place::Reconcile,
@@ -68,26 +68,21 @@ impl Place {
             Place::Most => "most",
             Place::Fetch => "fetch",
             Place::Store => "store",
-            Place::Later => "later",
+            Place::Compare => "compare",
             Place::ReadTicket => "read_ticket",
             Place::WriteTicket => "write_ticket",
             Place::Reconcile => "reconcile",
         }
-    }
-
-    /// 0 is done. What `later` answers is no refusal; it writes nothing.
-    pub fn is_done(self, answer: u8) -> bool {
-        answer == 0 && self != Place::Later
     }
 }
 
 /// Everything lent to one call. What a place does not use is empty.
 #[derive(Clone, Debug, Default, PartialEq, Eq)]
 pub struct Lent {
-    /// The book (the taker's own, the one opened into), the first row, the
-    /// bytes of a ticket, or the bridge's list.
+    /// The book (the taker's own, the one opened into), my row, the bytes of a
+    /// ticket, or the bridge's list.
     pub book: Vec<u8>,
-    /// The copy, the second row, a ticket's kind and desk, or the desk's list.
+    /// The copy, the copy's row, a ticket's kind and desk, or the desk's list.
     pub copy: Vec<u8>,
     /// The opening's list, the contents' numbers, the record, the one number
     /// of an answer, a ticket's number, pile and tonnes, or the four counts.
@@ -200,7 +195,7 @@ pub struct Functions {
     pub draw: Act,
     pub give_draw: Give,
     pub give_tip: Give,
-    pub take: fn(&mut [u8], &[u8], u8) -> u8,
+    pub take: fn(&mut [u8], &[u8], u8, &mut u32) -> u8,
     pub draw_rights: OfDesk,
     pub tip_rights: OfDesk,
     pub tonnage: fn(&[u8], u16, &mut u32) -> u8,
@@ -208,7 +203,7 @@ pub struct Functions {
     pub most: OfDesk,
     pub fetch: fn(&[u8], u16, &mut [u32]) -> u8,
     pub store: fn(&mut [u8], u16, &[u32]) -> u8,
-    pub later: fn(&[u8], &[u8]) -> u8,
+    pub compare: fn(&[u8], &[u8], &mut u32) -> u8,
     pub read_ticket: fn(&[u8], &mut u32, &mut u32, &mut u32, &mut u8, &mut u8) -> u8,
     pub write_ticket: fn(u32, u32, u32, u8, u8, &mut [u8]) -> u8,
     pub reconcile: Reconcile,
@@ -233,7 +228,7 @@ macro_rules! functions_of {
             most: $($module)::+::most,
             fetch: $($module)::+::fetch,
             store: $($module)::+::store,
-            later: $($module)::+::later,
+            compare: $($module)::+::compare,
             read_ticket: $($module)::+::read_ticket,
             write_ticket: $($module)::+::write_ticket,
             reconcile: $($module)::+::reconcile,
@@ -268,7 +263,7 @@ impl Functions {
             Place::Draw => (self.draw)(book, desk, pile, amount),
             Place::GiveDraw => (self.give_draw)(book, desk, pile, receiver, amount),
             Place::GiveTip => (self.give_tip)(book, desk, pile, receiver, amount),
-            Place::Take => (self.take)(book, copy, desk),
+            Place::Take => (self.take)(book, copy, desk, &mut numbers[0]),
             Place::DrawRights => (self.draw_rights)(book, desk, pile, &mut numbers[0]),
             Place::TipRights => (self.tip_rights)(book, desk, pile, &mut numbers[0]),
             Place::Tonnage => (self.tonnage)(book, pile, &mut numbers[0]),
@@ -276,7 +271,7 @@ impl Functions {
             Place::Most => (self.most)(book, desk, pile, &mut numbers[0]),
             Place::Fetch => (self.fetch)(book, pile, numbers),
             Place::Store => (self.store)(book, pile, numbers),
-            Place::Later => (self.later)(book, copy),
+            Place::Compare => (self.compare)(book, copy, &mut numbers[0]),
             Place::ReadTicket => {
                 let [number, pile, tonnes] = numbers else {
                     panic!("a ticket has three numbers");

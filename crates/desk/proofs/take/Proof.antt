@@ -1,21 +1,25 @@
--- `take` judges first; where nothing is refused, the later rows written in place make up the taken book.
+-- `take` judges first; where nothing is refused, the later rows written in place make up the taken book, and as many pairs of a pile and a desk have
+-- another row.
 -- Assumes nothing.
 use Prim.Native.Nat.{ℕ, _+_, _*_, _≤_}
 use native.Mathlib.Nat.{zero-mul, mul-le-mul}
 use native.Mathlib.Numerals.{add-one}
 use native.Mathlib.Omega.{arith}
 use mathlib.Core.Path.{_≡_, ap, sym, _∙_}
+use mathlib.Core.Logic.{_≢_}
+use mathlib.Core.Bool.{Bool}
 use mathlib.Core.List.{List}
 use lib.Seq.{sets}
 use borrow.Author.Needs.{needs}
-use Rattle.rules.specs.Loops.{flat}
+use Rattle.rules.specs.Loops.{flat, count}
 use Rattle.rules.specs.Layout.{frontLength, rowLength, bodyLength, bodyAt, desks, piles, position}
 use Rattle.rules.specs.Numbers.{part}
-use Rattle.rules.specs.Rows.{laterOf}
-use Rattle.rules.specs.Take.{takeAnswer, afterTake}
+use Rattle.rules.specs.Rows.{compared, isCopyLater, laterOf}
+use Rattle.rules.specs.Take.{takeAnswer, afterTake, takeReport}
 use Rattle.rules.proofs.Loops.Refusals.{when-refused}
 use Rattle.rules.proofs.File.Readable.{BookFacts}
 use Rattle.rules.proofs.Take.InPlace.{own-facts, copy-facts, same-desks, same-count, copy-long, rows-end, piece, after-take}
+use Rattle.rules.proofs.Take.Report.{report}
 use Rattle.desk.proofs.take.Statement.{statement}
 use Rattle.desk.proofs.take.Tie as tie
 
@@ -52,8 +56,11 @@ same-length : tie.Need-same-length
 same-length c = search needs
 
 returns : tie.Need-returns
-unfolding afterTake
-returns c = let answer = c .before .take-answer .ensures in (answer, sym (when-refused _ _ _ (λ z. c .if1 .taken (answer ∙ z))))
+unfolding afterTake takeReport
+returns c =
+    let answer = c .before .take-answer .ensures in
+    let refused : takeAnswer _ _ _ ≢ 0 = λ z. c .if1 .taken (answer ∙ z) in
+    (answer, (sym (when-refused _ _ _ refused), sym (when-refused _ _ _ refused)))
 
 slice-read-n : tie.Need-slice-read-n
 slice-read-n c = search (needs, facts (c .before) .long)
@@ -113,9 +120,19 @@ returns-2 c =
     let a = start one .args in
     let e = accepted one in
     let b = a .own .now in
+    let row = 8 * (desks b + 1) in
     let pieces = piece b (a .copy .now) (facts one) (copy-facts _ _ _ e) (same-desks _ _ _ e) (same-count _ _ _ e) in
-    let rows : ℕ → ℕ → List ℕ = λ at r. laterOf (part (at + r * (8 * (desks b + 1))) (8 * (desks b + 1)) b) (part (at + r * (8 * (desks b + 1))) (8 * (desks b + 1)) (a .copy .now)) in
-    (sym e, call .take-rows .ensures ∙ ap (λ (at : ℕ). sets b at (flat (piles b * (desks b + 1)) (rows at))) (front (call .before .before)) ∙ ap (λ (m : ℕ). sets b (frontLength (piles b)) (flat (piles b * m) pieces)) (add-one (desks b)) ∙ after-take _ _ _ e)
+    let changes : ℕ → ℕ → Bool = λ at r. isCopyLater (compared (part (at + r * row) row b) (part (at + r * row) row (a .copy .now))) in
+    let rows : ℕ → ℕ → List ℕ = λ at r. laterOf (part (at + r * row) row b) (part (at + r * row) row (a .copy .now)) in
+    let at = front (call .before .before) in (
+      sym e,
+      (
+        call .take-rows .ensures .0 ∙ ap (λ (at : ℕ). count (piles b * (desks b + 1)) (changes at)) at
+            ∙ ap (λ (m : ℕ). count (piles b * m) (changes (frontLength (piles b)))) (add-one (desks b)) ∙ report _ _ _ e,
+        call .take-rows .ensures .1 ∙ ap (λ (at : ℕ). sets b at (flat (piles b * (desks b + 1)) (rows at))) at
+            ∙ ap (λ (m : ℕ). sets b (frontLength (piles b)) (flat (piles b * m) pieces)) (add-one (desks b)) ∙ after-take _ _ _ e,
+      ),
+    )
 
 pub take-spec : {M : Type 1} → statement M
 take-spec =

@@ -1,4 +1,4 @@
--- `compare` goes over the places once, and keeps whether each row has been at least the other so far.
+-- `compare` asks for one length of a row, goes over the places once, and keeps whether each row has been at least the other so far.
 -- Assumes nothing.
 use Prim.Native.Nat.{_-_, _≤_}
 use native.Mathlib.Omega.{arith}
@@ -6,17 +6,31 @@ use mathlib.Core.Path.{_≡_, refl, ap₂, sym, _∙_}
 use mathlib.Core.Logic.{⊎-elim}
 use borrow.Author.Needs.{needs}
 use Rattle.rules.specs.Loops.{every}
-use Rattle.rules.specs.Rows.{atLeast, rowOrder, numbersOf, places}
-use Rattle.rules.proofs.Take.RowOrder.{orderBy, at-least-fails, at-least-stays, row-order}
+use Rattle.rules.specs.Rows.{atLeast, numbersOf, places, compared}
+use Rattle.rules.proofs.Loops.Logic.{holds, fails}
+use Rattle.rules.proofs.Take.RowOrder.{orderBy, at-least-fails, at-least-stays}
+use Rattle.rules.proofs.Take.Compared.{no-row, lengths-differ, by-tests}
 use Rattle.rows.proofs.compare.Statement.{statement}
 use Rattle.rows.proofs.compare.Tie as tie
 
 abbrev Inv-loop : tie.InvT-loop
-Inv-loop a b places first₀ second₀ c₀ first second c =
-    (c ≤ places) × (first ≡ atLeast c (numbersOf a) (numbersOf b)) × (second ≡ atLeast c (numbersOf b) (numbersOf a))
+Inv-loop mine copy places mine-above₀ copy-above₀ c₀ mine-above copy-above c =
+    (c ≤ places) × (mine-above ≡ atLeast c (numbersOf mine) (numbersOf copy)) × (copy-above ≡ atLeast c (numbersOf copy) (numbersOf mine))
 
 abbrev μ-loop : tie.MeasureT-loop
-μ-loop a b places first₀ second₀ c₀ first second c = places - c
+μ-loop mine copy places mine-above₀ copy-above₀ c₀ mine-above copy-above c = places - c
+
+abbrev start : tie.After-is-row-length Inv-loop μ-loop → tie.Start Inv-loop μ-loop
+start c = c .before .before .before
+
+is-row-length-requires : tie.Need-is-row-length-requires Inv-loop μ-loop
+is-row-length-requires c κs = search needs
+
+returns : tie.Need-returns Inv-loop μ-loop
+returns c = no-row _ _ (fails (c .before .is-row-length .ensures) (c .if1 .taken))
+
+returns-2 : tie.Need-returns-2 Inv-loop μ-loop
+returns-2 c = lengths-differ _ _ (c .if2 .taken)
 
 loop-holds : tie.Need-loop-holds Inv-loop μ-loop
 unfolding atLeast every
@@ -47,31 +61,32 @@ loop-again c =
     let loop = c .before .before .before .before .before .loop in (
       search needs,
       ⊎-elim (λ w. w .1 ∙ sym (at-least-fails _ _ _ x-is y-is (w .0 .taken)))
-          (λ w. w .1 ∙ loop .inv .1 ∙ sym (at-least-stays _ _ _ x-is y-is (w .0 .left))) (c .before .if1 .came),
+          (λ w. w .1 ∙ loop .inv .1 ∙ sym (at-least-stays _ _ _ x-is y-is (w .0 .left))) (c .before .if3 .came),
       ⊎-elim (λ w. w .1 ∙ sym (at-least-fails _ _ _ y-is x-is (w .0 .taken)))
-          (λ w. w .1 ∙ loop .inv .2 ∙ sym (at-least-stays _ _ _ y-is x-is (w .0 .left))) (c .if2 .came),
+          (λ w. w .1 ∙ loop .inv .2 ∙ sym (at-least-stays _ _ _ y-is x-is (w .0 .left))) (c .if4 .came),
     )
 
 -- past the last place the two tests say which order it is
-told : (c : tie.After-loop Inv-loop μ-loop) → let rows = c .before .before .before .before .args in
-    rowOrder (places (rows .a .now)) (numbersOf (rows .a .now)) (numbersOf (rows .b .now)) ≡ orderBy (c .before .loop .first) (c .before .loop .second)
+told : (c : tie.After-loop Inv-loop μ-loop) → let rows = start (c .before .before .before .before) .args in
+    compared (rows .mine .now) (rows .copy .now) ≡ orderBy (c .before .loop .mine-above) (c .before .loop .copy-above)
 told c =
-    let rows = c .before .before .before .before .args in
+    let one = c .before .before .before in
     let loop = c .before .loop in
-    let done : loop .c ≡ places (rows .a .now) = omega arith in
-    row-order _ _ _ ∙ ap₂ orderBy (sym (rw done at (loop .inv .1))) (sym (rw done at (loop .inv .2)))
-
-returns : tie.Need-returns Inv-loop μ-loop
-returns c = sym (told (c .before .before) ∙ ap₂ orderBy (c .before .if3 .taken) (c .if4 .taken))
-
-returns-2 : tie.Need-returns-2 Inv-loop μ-loop
-returns-2 c = sym (told (c .before .before) ∙ ap₂ orderBy (c .before .if3 .taken) (c .if4 .left))
+    let done : loop .c ≡ places (start (one .before) .args .mine .now) = omega arith in
+    by-tests _ _ (holds (one .before .is-row-length .ensures) (one .if1 .left)) (c .before .before .if2 .left)
+    ∙ ap₂ orderBy (sym (rw done at (loop .inv .1))) (sym (rw done at (loop .inv .2)))
 
 returns-3 : tie.Need-returns-3 Inv-loop μ-loop
-returns-3 c = sym (told (c .before .before) ∙ ap₂ orderBy (c .before .if3 .left) (c .if5 .taken))
+returns-3 c = sym (told (c .before .before) ∙ ap₂ orderBy (c .before .if5 .taken) (c .if6 .taken))
 
 returns-4 : tie.Need-returns-4 Inv-loop μ-loop
-returns-4 c = sym (told (c .before .before) ∙ ap₂ orderBy (c .before .if3 .left) (c .if5 .left))
+returns-4 c = sym (told (c .before .before) ∙ ap₂ orderBy (c .before .if5 .taken) (c .if6 .left))
+
+returns-5 : tie.Need-returns-5 Inv-loop μ-loop
+returns-5 c = sym (told (c .before .before) ∙ ap₂ orderBy (c .before .if5 .left) (c .if7 .taken))
+
+returns-6 : tie.Need-returns-6 Inv-loop μ-loop
+returns-6 c = sym (told (c .before .before) ∙ ap₂ orderBy (c .before .if5 .left) (c .if7 .left))
 
 pub compare-spec : {M : Type 1} → statement M
 compare-spec =
@@ -79,6 +94,9 @@ compare-spec =
     (tie.spec
     Inv-loop
     μ-loop
+    is-row-length-requires
+    returns
+    returns-2
     loop-holds
     mul-get4
     get4-requires
@@ -87,7 +105,7 @@ compare-spec =
     add-c
     loop-less
     loop-again
-    returns
-    returns-2
     returns-3
-    returns-4)
+    returns-4
+    returns-5
+    returns-6)

@@ -1,4 +1,4 @@
--- Cases a to j of document 01, and G's least and most (1/12), as one table under one theorem, on the bytes of F and G.
+-- Cases a to j of document 01, G's least and most (1/12) and what takes of it report (5/12), as one table under one theorem, on the bytes of F and G.
 -- Assumes nothing.
 use Prim.Native.Nat.{ℕ}
 use mathlib.Core.Path.{refl}
@@ -8,8 +8,8 @@ use Rattle.rules.specs.Acts.{Kind, spend, give}
 use Rattle.rules.specs.Opening.{openingAnswer, opened}
 use Rattle.rules.specs.Book.{tonnageReply, rightsReply, actAnswer}
 use Rattle.rules.specs.Bounds.{boundReply}
-use Rattle.rules.specs.Take.{takeAnswer, afterTake}
-use Rattle.rules.proofs.Cases.Table.{Case, case, AllHold, all-hold, shown, actOn, enter, open-loops, open-refusals, open-numbers, open-pile, open-acts, open-layout, open-rows, open-opening, open-book, open-take, open-bounds}
+use Rattle.rules.specs.Take.{takeAnswer}
+use Rattle.rules.proofs.Cases.Table.{Case, case, AllHold, all-hold, shown, takes, actOn, enter, open-loops, open-refusals, open-numbers, open-pile, open-acts, open-layout, open-rows, open-opening, open-book, open-take, open-bounds}
 
 -- the worked book F: 3 desks, pile 7, floor 10, top 110, draw shares 0, 0, 0, tip shares 40, 30, 30
 abbrev pub F : List ℕ
@@ -74,9 +74,12 @@ table =
     ++ answers 0 (give draw 1) (0 ∷ 1001 ∷ 1000 ∷ []) G
     ++ answers 0 (give tip 1) (0 ∷ 1001 ∷ 1000 ∷ []) G)
     (13 ∷ 13 ∷ 14 ∷ 13 ∷ 13 ∷ 14 ∷ 13 ∷ 13 ∷ 14 ∷ 13 ∷ 13 ∷ 14 ∷ [])
-    ∷ case "h: desk 0 takes F into G: G unaltered" (takeAnswer 0 G F ∷ afterTake 0 G F) (0 ∷ G)
-    ∷ case "G taken into itself adds nothing" (takeAnswer 0 G G ∷ afterTake 0 G G) (0 ∷ G)
-    ∷ case "i: desk 2 takes G into F: 32" (takeAnswer 2 F G ∷ afterTake 2 F G) (32 ∷ F)
+    ∷ case "h: desk 0 takes F into G: G unaltered, reports 0" (takes 0 G F) (0 ∷ 0 ∷ G)
+    ∷ case "G taken into itself adds nothing, reports 0" (takes 0 G G) (0 ∷ 0 ∷ G)
+    ∷ case "desk 0 takes G into F with its own acts of G: news of two desks on one pile, reports 2"
+    (takes 0 (enter 0 7 (spend draw) 5 (enter 0 7 (give draw 2) 10 (enter 0 7 (give draw 1) 10 (enter 0 7 (spend tip) 30 F)))) G)
+    (0 ∷ 2 ∷ G)
+    ∷ case "i: desk 2 takes G into F: 32, reports 0" (takes 2 F G) (32 ∷ 0 ∷ F)
     ∷ case "j: desk 1 takes 'F, desk 0 tips 30' into 'F, desk 0 tips 10, gives tip 5 to desk 1': 31"
     (takeAnswer 1 (enter 0 7 (give tip 1) 5 (enter 0 7 (spend tip) 10 F)) (enter 0 7 (spend tip) 30 F) ∷ [])
     (31 ∷ [])

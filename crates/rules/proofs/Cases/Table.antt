@@ -13,12 +13,13 @@ use Rattle.rules.specs.Numbers.{number, bytes, encode}
 use Rattle.rules.specs.Pile.{bothSides, credit, debit, rights, lawful, tonnage, openingLawful, talliesLawful, pileAnswer, sameOpening}
 use Rattle.rules.specs.Acts.{Kind, Act, actRefusal}
 use Rattle.rules.specs.Layout.{sizesInRange, rowLength, bodyLength, bodyAt, bookLength, cellAt, pileNumber, position, pileOf, rowOf, bodyRow, bodyBytes, entryBytes, bookBytes}
-use Rattle.rules.specs.Rows.{atLeast, alike, later, split, isRowLength, laterRow}
+use Rattle.rules.specs.Rows as rows
+use Rattle.rules.specs.Rows.{atLeast, alike, later, rowOrder, isRowLength, compared}
 use Rattle.rules.specs.Opening.{rising, given, givenPile, bufferLength, openingAnswer, opened, afterOpening}
 use Rattle.rules.specs.Book.{headSound, contentsSound, bookAnswer, place, absent, contentsAnswer, afterContents, fetchAnswer, bodyPart, bodyStart, tonnageReply, deskAnswer, rightsReply, actAnswer, tallyAt, afterAct}
 use Rattle.rules.specs.Record.{unusedShares, unusedPlaces, recordAnswer, freshAnswer, recordTonnageReply, recordDeskAnswer, recordRightsReply, recordActAnswer, paddedRow, recordOf, fetched, storeAnswer, afterStore}
 use Rattle.rules.specs.Bounds.{least, most, boundReply, recordBoundReply, recordBounds}
-use Rattle.rules.specs.Take.{rowPart, sameBook, rowAnswer, takeAnswer, takenRow, taken, afterTake}
+use Rattle.rules.specs.Take.{rowPart, sameBook, rowAnswer, takeAnswer, takenRow, taken, afterTake, rowChanged, changedRows, takeReport}
 
 pub record Case : Type 0 where
   pub says : String
@@ -62,6 +63,18 @@ abbrev pub shown : Reply → List ℕ
 shown (refused k) = k ∷ []
 shown (value x) = 0 ∷ x ∷ []
 
+-- a comparison as numbers: alike, mine later, the copy's later and split as 1 to 4 behind 0, a refusal alone
+abbrev pub told : rows.Comparison → List ℕ
+told rows.bothAlike = 0 ∷ 1 ∷ []
+told rows.mineLater = 0 ∷ 2 ∷ []
+told rows.copyLater = 0 ∷ 3 ∷ []
+told rows.bothSplit = 0 ∷ 4 ∷ []
+told (rows.refused k) = k ∷ []
+
+-- what a take answers, what it reports, and the book after it
+abbrev pub takes : ℕ → List ℕ → List ℕ → List ℕ
+takes d own copy = takeAnswer d own copy ∷ takeReport d own copy ∷ afterTake d own copy
+
 -- an act on a pile, and the book after it
 abbrev pub actOn : ℕ → Kind → ℕ → Act
 actOn pile kind t = record { kind = kind; pile = pile; amount = t }
@@ -95,7 +108,7 @@ unfolding sizesInRange rowLength bodyLength bodyAt bookLength cellAt pileNumber 
 open-layout = tt
 
 unfoldable pub open-rows : Unit {0}
-unfolding atLeast alike later split isRowLength laterRow
+unfolding atLeast alike later rowOrder isRowLength compared
 open-rows = tt
 
 unfoldable pub open-opening : Unit {0}
@@ -111,7 +124,7 @@ unfolding unusedShares unusedPlaces recordAnswer freshAnswer recordTonnageReply 
 open-record = tt
 
 unfoldable pub open-take : Unit {0}
-unfolding rowPart sameBook rowAnswer takeAnswer takenRow taken afterTake
+unfolding rowPart sameBook rowAnswer takeAnswer takenRow taken afterTake rowChanged changedRows takeReport
 open-take = tt
 
 unfoldable pub open-bounds : Unit {0}

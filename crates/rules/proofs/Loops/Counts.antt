@@ -1,6 +1,6 @@
 -- How many numbers below n pass a test, and counting along numbers that rise.
 -- Assumes nothing.
-use Prim.Native.Nat.{ℕ, zero, suc, _+_, _<_}
+use Prim.Native.Nat.{ℕ, zero, suc, _+_, _*_, _≤_, _<_}
 use native.Mathlib.Nat.{le-refl, le-step, le-of-suc-le, le-of-suc-le-suc, eq-or-lt-of-le, not-suc-le-zero, zero-add, add-zero}
 use native.Mathlib.Decide.{ℕ-discrete}
 use native.Mathlib.Omega.{arith}
@@ -13,7 +13,7 @@ use borrow.Author.Tests.{eqb-true, eq-eqb, ne-eqb}
 use Rattle.rules.specs.Loops.{_and_, sum, every, some, oneIf, count}
 use Rattle.rules.proofs.Loops.Logic.{decided}
 use Rattle.rules.proofs.Loops.Every.{some-at, some-none, some-before}
-use Rattle.rules.proofs.Loops.Sums.{sum-cong, sum-add, sum-at, sum-zero}
+use Rattle.rules.proofs.Loops.Sums.{sum-cong, sum-add, sum-at, sum-zero, sum-le, sum-first, sum-runs, term-le}
 
 pub count-cong : (n : ℕ) {t u : ℕ → Bool} → ((k : ℕ) → k < n → t k ≡ u k) → count n t ≡ count n u
 unfolding count
@@ -32,6 +32,28 @@ count-all (suc n) = omega (arith, count-all n)
 pub count-none : (n : ℕ) → count n (λ k. false) ≡ 0
 unfolding count
 count-none n = sum-zero n
+
+pub count-most : (n : ℕ) (t : ℕ → Bool) → count n t ≤ n
+unfolding count
+count-most n t = omega (arith, sum-le n {g = λ k. 1} (λ k _. one (t k)), count-all n)
+  where
+    one : (b : Bool) → oneIf b ≤ 1
+    one true = omega arith
+    one false = omega arith
+
+-- where none pass, each fails
+pub count-no : (n : ℕ) (t : ℕ → Bool) → count n t ≡ 0 → (k : ℕ) → k < n → t k ≡ false
+unfolding count
+count-no n t e k l = ⊎-elim (λ h. absurd (omega (arith, e, ap (λ (b : Bool). oneIf b) h, term-le n k (λ k. oneIf (t k)) l))) (λ h. h) (decided (t k))
+
+-- where the first number fails; and over p runs of m numbers
+pub count-rest : (n : ℕ) (t : ℕ → Bool) → t 0 ≡ false → count (suc n) t ≡ count n (λ k. t (suc k))
+unfolding count
+count-rest n t e = sum-first n (λ k. oneIf (t k)) ∙ omega (arith, ap (λ (b : Bool). oneIf b) e)
+
+pub count-runs : (p m : ℕ) (t : ℕ → Bool) → count (p * m) t ≡ sum p (λ k. count m (λ r. t (k * m + r)))
+unfolding count
+count-runs p m t = sum-runs p m (λ k. oneIf (t k))
 
 -- where of two tests never both hold: those that pass either are those that pass the one and those that pass the other
 pub count-apart : (n : ℕ) (either t u : ℕ → Bool) → ((k : ℕ) → oneIf (either k) ≡ oneIf (t k) + oneIf (u k)) → count n either ≡ count n t + count n u

@@ -1,7 +1,7 @@
 -- Sums over the numbers below n.
 -- Assumes nothing.
-use Prim.Native.Nat.{ℕ, zero, suc, _+_, _≤_, _<_}
-use native.Mathlib.Nat.{le-refl, le-step, add-le-add, not-suc-le-zero, le-of-suc-le-suc, eq-or-lt-of-le, zero-add, add-zero}
+use Prim.Native.Nat.{ℕ, zero, suc, _+_, _*_, _≤_, _<_}
+use native.Mathlib.Nat.{le-refl, le-step, add-le-add, not-suc-le-zero, le-of-suc-le-suc, eq-or-lt-of-le, zero-add, add-zero, add-suc, zero-mul, suc-mul}
 use native.Mathlib.Decide.{decLe, ℕ-discrete}
 use native.Mathlib.Omega.{arith}
 use mathlib.Core.Path.{_≡_, refl, ap, ap₂, sym, _∙_}
@@ -30,6 +30,22 @@ pub sum-add : (n : ℕ) (f g : ℕ → ℕ) → sum n (λ k. f k + g k) ≡ sum 
 unfolding sum
 sum-add zero f g = refl
 sum-add (suc n) f g = omega (arith, sum-add n f g)
+
+-- the first term apart; and a sum over p runs of m terms
+pub sum-first : (n : ℕ) (f : ℕ → ℕ) → sum (suc n) f ≡ f 0 + sum n (λ k. f (suc k))
+unfolding sum
+sum-first zero f = omega arith
+sum-first (suc n) f = omega (arith, sum-first n f)
+
+sum-range : (m m′ : ℕ) (f : ℕ → ℕ) → sum (m + m′) f ≡ sum m f + sum m′ (λ k. f (m + k))
+unfolding sum
+sum-range m zero f = rw (add-zero m) (sym (add-zero _))
+sum-range m (suc m′) f = rw (add-suc m m′) (omega (arith, sum-range m m′ f))
+
+pub sum-runs : (p m : ℕ) (f : ℕ → ℕ) → sum (p * m) f ≡ sum p (λ k. sum m (λ r. f (k * m + r)))
+unfolding sum
+sum-runs zero m f = rw (zero-mul m)
+sum-runs (suc p) m f = rw (suc-mul p m) (sum-range (p * m) m f ∙ ap (λ (x : ℕ). x + sum m (λ r. f (p * m + r))) (sum-runs p m f))
 
 pub sum-swap : (n m : ℕ) (f : ℕ → ℕ → ℕ) → sum n (λ i. sum m (f i)) ≡ sum m (λ j. sum n (λ i. f i j))
 unfolding sum

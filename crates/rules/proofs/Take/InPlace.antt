@@ -4,7 +4,7 @@ use Prim.Native.Nat.{ℕ, zero, suc, _+_, _*_, _≤_, _<_}
 use native.Mathlib.Nat.{zero-lt-suc, le-of-suc-le-suc, add-zero, zero-mul, add-mul, mul-assoc}
 use native.Mathlib.Omega.{arith}
 use mathlib.Core.Path.{_≡_, refl, ap, ap₂, sym, _∙_}
-use mathlib.Core.Bool.{Bool, true, false, cond, not}
+use mathlib.Core.Bool.{Bool, true, false, cond, false≢true}
 use mathlib.Core.List.{List, _++_}
 use lib.ListN.{length}
 use lib.Seq.{sets}
@@ -15,10 +15,10 @@ use Rattle.rules.specs.Numbers.{number, part}
 use Rattle.rules.specs.Pile.{sameOpening}
 use Rattle.rules.specs.Layout.{columns, rowLength, bodyLength, frontLength, bodyAt, bookLength, cellAt, column, view, desks, piles, pileNumber, pileOf}
 use Rattle.rules.specs.Refusals.{first}
-use Rattle.rules.specs.Rows.{alike, later, split, numbersOf, places, laterOf, isRowLength}
+use Rattle.rules.specs.Rows.{alike, Comparison, bothAlike, mineLater, copyLater, bothSplit, refused, isAlike, isCopyLater, isSplit, numbersOf, places, compared, laterOf, isRowLength}
 use Rattle.rules.specs.Book.{bookAnswer}
 use Rattle.rules.specs.Take.{rowPart, ofCopy, sameBook, rowAnswer, takeAnswer, takenRow, taken, afterTake}
-use Rattle.rules.proofs.Loops.Logic.{same, and-left, and-right, and-left-holds, and-right-fails}
+use Rattle.rules.proofs.Loops.Logic.{same, and-left, and-right, and-left-holds}
 use Rattle.rules.proofs.Loops.Every.{every-at, every-cong}
 use Rattle.rules.proofs.Loops.Refusals.{when-done, when-not-done, orElse-first, orElse-rest, first-at, first-cong, when-accepted}
 use Rattle.rules.proofs.Loops.Ranges.{piece-within}
@@ -31,7 +31,9 @@ use Rattle.rules.proofs.Pile.Agree.{same-opening}
 use Rattle.rules.proofs.File.Body.{by-column, column-below, row-length, body-rows, row-within}
 use Rattle.rules.proofs.File.Written.{body-within}
 use Rattle.rules.proofs.File.Readable.{BookFacts, book-facts}
-use Rattle.rules.proofs.Take.Order.{alike-at, alike-all, later-row}
+use Rattle.rules.proofs.Take.Order.{alike-at, alike-all}
+use Rattle.rules.proofs.Take.RowOrder.{alike-told}
+use Rattle.rules.proofs.Take.Compared.{compared-rows, later-row}
 use Rattle.rules.proofs.Take.RowBytes.{is-row-length}
 use borrow.Author.Tests.{eqb-true, eq-eqb}
 
@@ -65,12 +67,15 @@ module _ (b : List ℕ) (f : BookFacts b) (k r : ℕ) (k<p : k < piles b) (r<n :
 
 -- the row that is handed on
 pub later-of-long : (a b : List ℕ) (ℓ : ℕ) → length a ≡ ℓ → length b ≡ ℓ → length (laterOf a b) ≡ ℓ
-later-of-long a b ℓ e d = cases (λ (l : List ℕ). length l ≡ ℓ) (later (places a) (numbersOf b) (numbersOf a)) (λ _. d) (λ _. e)
+later-of-long a b ℓ e d = cases (λ (l : List ℕ). length l ≡ ℓ) (isCopyLater (compared a b)) (λ _. d) (λ _. e)
 
--- of alike rows neither is later
-alike-not-later : (m : ℕ) (f g : ℕ → ℕ) → alike m f g ≡ true → later m g f ≡ false
-unfolding later
-alike-not-later m f g e = and-right-fails _ (ap not (alike-all m g f (λ c l. sym (alike-at m f g e c l))))
+-- of alike rows the copy's is not later
+pub alike-not-later : (rows : Comparison) → isAlike rows ≡ true → isCopyLater rows ≡ false
+alike-not-later bothAlike e = refl
+alike-not-later mineLater e = absurd (false≢true e)
+alike-not-later copyLater e = absurd (false≢true e)
+alike-not-later bothSplit e = absurd (false≢true e)
+alike-not-later (refused number) e = absurd (false≢true e)
 
 -- two readable books of as many desks and piles
 module _ (own copy : List ℕ) (f : BookFacts own) (g : BookFacts copy) (same-n : desks own ≡ desks copy) (same-p : piles own ≡ piles copy) where
@@ -84,7 +89,7 @@ module _ (own copy : List ℕ) (f : BookFacts own) (g : BookFacts copy) (same-n 
   abbrev pub rowAt : ℕ → ℕ → ℕ
   rowAt k r = bodyAt n p k + r * rowLength n
 
-  row-start : (k r : ℕ) → bodyAt n p k + cellAt n r 0 ≡ rowAt k r
+  pub row-start : (k r : ℕ) → bodyAt n p k + cellAt n r 0 ≡ rowAt k r
   unfolding cellAt
   row-start k r = omega arith
 
@@ -103,40 +108,48 @@ module _ (own copy : List ℕ) (f : BookFacts own) (g : BookFacts copy) (same-n 
       row-cell copy g k r (omega (arith, same-p)) (omega (arith, same-n)) c (omega (arith, same-n))
       ∙ ap₂ (λ (n p : ℕ). number 4 copy (bodyAt n p k + cellAt n r c)) (sym same-n) (sym same-p)
 
+  -- row r of body k has a row's length, and is as long in both
+  pub is-row : (k r : ℕ) → k < p → r < suc n → isRowLength (length (rowPart own k r)) ≡ true
+  is-row k r k<p l = ap isRowLength (row-long own f k r k<p l) ∙ is-row-length n (f .sizes .desks-least) (f .sizes .desks-most)
+
+  pub as-long : (k r : ℕ) → k < p → r < suc n → length (rowPart own k r) ≡ length (rowPart copy k r)
+  as-long k r k<p l =
+      row-long own f k r k<p l ∙ sym (row-long copy g k r (omega (arith, same-p)) (omega (arith, same-n)) ∙ ap rowLength (sym same-n))
+
   -- the openings of pile k agree exactly where its opening rows are alike
-  pub openings-test : (k : ℕ) → k < p
-      → sameOpening n (pileOf own k) (pileOf copy k) ≡ alike (places (rowPart own k 0)) (numbersOf (rowPart own k 0)) (numbersOf (rowPart copy k 0))
+  pub openings-test : (k : ℕ) → k < p → sameOpening n (pileOf own k) (pileOf copy k) ≡ isAlike (compared (rowPart own k 0) (rowPart copy k 0))
   unfolding pileOf alike
   openings-test k k<p =
       ap (sameOpening n (pileOf own k)) (ap₂ (λ (n p : ℕ). view n (λ r c. number 4 copy (bodyAt n p k + cellAt n r c))) (sym same-n) (sym same-p))
       ∙ opening-alike n (λ r c. number 4 own (bodyAt n p k + cellAt n r c)) (λ r c. number 4 copy (bodyAt n p k + cellAt n r c))
       ∙ sym (ap (λ (m : ℕ). every m (λ c. eqb (numbersOf (rowPart own k 0) c) (numbersOf (rowPart copy k 0) c))) (row-count own f k 0 k<p (zero-lt-suc n))
       ∙ every-cong (columns n) (λ c l. ap₂ eqb (row-cell own f k 0 k<p (zero-lt-suc n) c l) (copy-cell k 0 c k<p (zero-lt-suc n) l)))
+      ∙ sym (ap isAlike (compared-rows _ _ (is-row k 0 k<p (zero-lt-suc n)) (as-long k 0 k<p (zero-lt-suc n))) ∙ alike-told _ _ _)
 
   first-row : (k : ℕ) → bodyAt n p k ≡ rowAt k 0
   first-row k = omega arith
 
   -- the tests of a take, on rows found by their position
   pub same-piles-test : every p (λ k. eqb (pileNumber own k) (pileNumber copy k)
-      and alike (places (part (bodyAt n p k) (rowLength n) own)) (numbersOf (part (bodyAt n p k) (rowLength n) own)) (numbersOf (part (bodyAt n p k) (rowLength n) copy)))
+      and isAlike (compared (part (bodyAt n p k) (rowLength n) own) (part (bodyAt n p k) (rowLength n) copy)))
       ≡ sameBook own copy
   unfolding sameBook
   same-piles-test =
       every-cong p (λ k k<p. ap (λ (b : Bool). eqb (pileNumber own k) (pileNumber copy k) and b)
-      (ap₂ (λ (a b : List ℕ). alike (places a) (numbersOf a) (numbersOf b)) (ap (λ (at : ℕ). part at (rowLength n) own) (first-row k) ∙ sym (own-row k 0))
+      (ap₂ (λ (a b : List ℕ). isAlike (compared a b)) (ap (λ (at : ℕ). part at (rowLength n) own) (first-row k) ∙ sym (own-row k 0))
       (ap (λ (at : ℕ). part at (rowLength n) copy) (first-row k) ∙ sym (copy-row k 0))
       ∙ sym (openings-test k k<p)))
       ∙ and-left-holds (eq-eqb p (piles copy) same-p) _
       ∙ and-left-holds (eq-eqb n (desks copy) same-n) _
 
   pub rows-test : (d : ℕ)
-      → first p (λ k. first n (λ i. rowAnswer (eqb i d) (part (rowAt k (suc i)) (rowLength n) own) (part (rowAt k (suc i)) (rowLength n) copy)))
-      ≡ first p (λ k. first n (λ i. rowAnswer (eqb i d) (rowPart own k (suc i)) (rowPart copy k (suc i))))
+      → first p (λ k. first n (λ i. rowAnswer (eqb i d) (compared (part (rowAt k (suc i)) (rowLength n) own) (part (rowAt k (suc i)) (rowLength n) copy))))
+      ≡ first p (λ k. first n (λ i. rowAnswer (eqb i d) (compared (rowPart own k (suc i)) (rowPart copy k (suc i)))))
   rows-test d =
-      first-cong p (λ k _. first-cong n (λ i _. ap₂ (rowAnswer (eqb i d)) (sym (own-row k (suc i))) (sym (copy-row k (suc i)))))
+      first-cong p (λ k _. first-cong n (λ i _. ap₂ (λ (a b : List ℕ). rowAnswer (eqb i d) (compared a b)) (sym (own-row k (suc i))) (sym (copy-row k (suc i)))))
 
   -- rows in file order: row r of body k is row k(n + 1) + r behind the front
-  row-in-order : (k r : ℕ) → frontLength p + (k * suc n + r) * rowLength n ≡ rowAt k r
+  pub row-in-order : (k r : ℕ) → frontLength p + (k * suc n + r) * rowLength n ≡ rowAt k r
   unfolding bodyAt
   row-in-order k r =
       omega (arith, add-mul (k * suc n) r (rowLength n), mul-assoc k (suc n) (rowLength n) ∙ ap (λ (x : ℕ). k * x) (body-rows n))
@@ -161,26 +174,20 @@ module _ (own copy : List ℕ) (f : BookFacts own) (g : BookFacts copy) (same-n 
       later-of-long (part at (rowLength n) own) (part at (rowLength n) copy) (rowLength n) (length-part at (rowLength n) own (row-within-both r l))
       (length-part at (rowLength n) copy (omega (arith, copy-long, row-within-both r l)))
 
-  module _ (openings : (k : ℕ) → k < p → alike (places (rowPart own k 0)) (numbersOf (rowPart own k 0)) (numbersOf (rowPart copy k 0)) ≡ true)
-      (whole : (k i : ℕ) → k < p → i < n
-      → split (places (rowPart own k (suc i))) (numbersOf (rowPart own k (suc i))) (numbersOf (rowPart copy k (suc i))) ≡ false) where
+  module _ (openings : (k : ℕ) → k < p → isAlike (compared (rowPart own k 0) (rowPart copy k 0)) ≡ true)
+      (whole : (k i : ℕ) → k < p → i < n → isSplit (compared (rowPart own k (suc i)) (rowPart copy k (suc i))) ≡ false) where
     row-taken : (k r : ℕ) → k < p → r < suc n → laterOf (rowPart own k r) (rowPart copy k r) ≡ takenRow own copy k r
     unfolding takenRow
-    row-taken k zero k<p l =
-        ap (λ (b : Bool). cond b (rowPart copy k 0) (rowPart own k 0)) (alike-not-later _ _ _ (openings k k<p))
-    row-taken k (suc i) k<p l =
-        let long = row-long own f k (suc i) k<p l in
-        sym (later-row _ _ (ap isRowLength long ∙ is-row-length n (f .sizes .desks-least) (f .sizes .desks-most))
-        (long ∙ sym (row-long copy g k (suc i) (omega (arith, same-p)) (omega (arith, same-n)) ∙ ap rowLength (sym same-n)))
-        (whole k i k<p (le-of-suc-le-suc l)))
+    row-taken k zero k<p l = ap (λ (b : Bool). cond b (rowPart copy k 0) (rowPart own k 0)) (alike-not-later (compared (rowPart own k 0) (rowPart copy k 0)) (openings k k<p))
+    row-taken k (suc i) k<p l = sym (later-row _ _ (is-row k (suc i) k<p l) (as-long k (suc i) k<p l) (whole k i k<p (le-of-suc-le-suc l)))
 
-    piece-taken : (k r : ℕ) → k < p → r < suc n → piece (k * suc n + r) ≡ takenRow own copy k r
+    pub piece-taken : (k r : ℕ) → k < p → r < suc n → piece (k * suc n + r) ≡ takenRow own copy k r
     piece-taken k r k<p l =
         ap (λ (at : ℕ). laterOf (part at (rowLength n) own) (part at (rowLength n) copy)) (row-in-order k r)
         ∙ ap₂ laterOf (sym (own-row k r)) (sym (copy-row k r))
         ∙ row-taken k r k<p l
 
-    pub taken-in-place : sets own (frontLength p) (flat (p * suc n) piece) ≡ taken own copy
+    taken-in-place : sets own (frontLength p) (flat (p * suc n) piece) ≡ taken own copy
     unfolding taken bodyAt
     taken-in-place =
         sets-to-end own (frontLength p) (flat (p * suc n) piece)
@@ -206,7 +213,7 @@ module _ (d : ℕ) (own copy : List ℕ) (accepted : takeAnswer d own copy ≡ 0
   unfolding takeAnswer
   one-book = when-not-done _ _ (orElse-first _ _ (orElse-rest _ _ (orElse-rest _ _ (orElse-rest _ _ accepted))))
 
-  rows-pass : (k i : ℕ) → k < piles own → i < desks own → rowAnswer (eqb i d) (rowPart own k (suc i)) (rowPart copy k (suc i)) ≡ 0
+  rows-pass : (k i : ℕ) → k < piles own → i < desks own → rowAnswer (eqb i d) (compared (rowPart own k (suc i)) (rowPart copy k (suc i))) ≡ 0
   unfolding takeAnswer
   rows-pass k i k<p i<n =
       first-at (desks own) _ (first-at (piles own) _ (orElse-rest _ _ (orElse-rest _ _ (orElse-rest _ _ (orElse-rest _ _ accepted)))) k k<p) i i<n
@@ -225,12 +232,20 @@ module _ (d : ℕ) (own copy : List ℕ) (accepted : takeAnswer d own copy ≡ 0
   pub copy-facts : BookFacts copy
   copy-facts = book-facts copy copy-readable
 
+  pub openings-alike : (k : ℕ) → k < piles own → isAlike (compared (rowPart own k 0) (rowPart copy k 0)) ≡ true
+  unfolding sameBook
+  openings-alike k k<p =
+      sym (openings-test own copy own-facts copy-facts same-desks same-count k k<p)
+      ∙ and-right _ _ (every-at (piles own) _ (and-right _ _ (and-right _ _ one-book)) k k<p)
+
+  pub no-row-split : (k i : ℕ) → k < piles own → i < desks own → isSplit (compared (rowPart own k (suc i)) (rowPart copy k (suc i))) ≡ false
+  unfolding rowAnswer
+  no-row-split k i k<p i<n = when-done _ _ (orElse-first _ _ (rows-pass k i k<p i<n))
+
+  pub written : sets own (frontLength (piles own)) (flat (piles own * suc (desks own)) (piece own copy own-facts copy-facts same-desks same-count)) ≡ taken own copy
+  written = taken-in-place own copy own-facts copy-facts same-desks same-count openings-alike no-row-split
+
   pub after-take : sets own (frontLength (piles own)) (flat (piles own * suc (desks own)) (piece own copy own-facts copy-facts same-desks same-count))
       ≡ afterTake d own copy
-  unfolding afterTake sameBook rowAnswer
-  after-take =
-      taken-in-place own copy own-facts copy-facts same-desks same-count
-      (λ k k<p. sym (openings-test own copy own-facts copy-facts same-desks same-count k k<p)
-      ∙ and-right _ _ (every-at (piles own) _ (and-right _ _ (and-right _ _ one-book)) k k<p))
-      (λ k i k<p i<n. when-done _ _ (orElse-first _ _ (rows-pass k i k<p i<n)))
-      ∙ sym (when-accepted _ _ _ accepted)
+  unfolding afterTake
+  after-take = written ∙ sym (when-accepted _ _ _ accepted)

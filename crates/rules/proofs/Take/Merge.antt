@@ -12,7 +12,7 @@ use Rattle.rules.specs.Loops.{_and_}
 use Rattle.rules.specs.Numbers.{encode}
 use Rattle.rules.specs.Pile.{Side, Pile, sameOpening}
 use Rattle.rules.specs.Layout.{pileOf, bodyRow, bodyBytes, bookBytes}
-use Rattle.rules.specs.Rows.{later, numbersOf, places, laterRow}
+use Rattle.rules.specs.Rows.{isCopyLater, compared, laterRow}
 use Rattle.rules.specs.Take.{rowPart, ofCopy, sameBook, rowAnswer, takeAnswer, takenRow, taken, afterTake}
 use Rattle.rules.proofs.Loops.Logic.{decided, and-both, and-left-fails, and-right-fails}
 use Rattle.rules.proofs.Loops.Every.{every-all}
@@ -66,20 +66,21 @@ module _ (n p : ℕ) (numbers : ℕ → ℕ) (frame : Frame n p numbers) (P Q R 
 
   -- no row is split, and at the taker's own desk the copy's is not later
   row-accepted : (d : ℕ) → ((k : ℕ) → k < p → RowLe n (Q k) (P k) d) → (k i : ℕ) → k < p → i < n
-      → rowAnswer (eqb i d) (rowPart own k (suc i)) (rowPart copy k (suc i)) ≡ 0
+      → rowAnswer (eqb i d) (compared (rowPart own k (suc i)) (rowPart copy k (suc i))) ≡ 0
   unfolding rowAnswer
   row-accepted d ahead k i k<p i<n =
       rw (row-part n p numbers P k (suc i) k<p (suc-le-suc i<n), row-part n p numbers Q k (suc i) k<p (suc-le-suc i<n))
       (none-met
       (not-met 31 (no-split n i (frame .sizes .desks-least) (frame .sizes .desks-most) i<n (P k) (Q k) (fitsP k k<p) (fitsQ k k<p)
       (⊎-map (λ h. h .0) (λ h. h .0) (merged k k<p .desk i i<n))))
-      (not-met 32 (⊎-elim mine (λ e. and-left-fails e _) (decided (eqb i d)))))
+      (not-met 32 (⊎-elim mine (λ e. and-right-fails _ e) (decided (eqb i d)))))
     where
-      mine : eqb i d ≡ true → eqb i d and later (places (row n (P k) i)) (numbersOf (row n (Q k) i)) (numbersOf (row n (P k) i)) ≡ false
+      mine : eqb i d ≡ true → isCopyLater (compared (row n (P k) i) (row n (Q k) i)) and eqb i d ≡ false
       mine e =
-          and-right-fails (eqb i d)
+          and-left-fails
           (not-later n i (frame .sizes .desks-least) (frame .sizes .desks-most) i<n (P k) (Q k) (fitsP k k<p) (fitsQ k k<p)
           (rw (eqb-true i d e) (ahead k k<p)))
+          (eqb i d)
 
   pub take-accepted : (d : ℕ) → d < n → ((k : ℕ) → k < p → RowLe n (Q k) (P k) d) → takeAnswer d own copy ≡ 0
   unfolding takeAnswer bookBytes

@@ -1,41 +1,22 @@
 -- What comparing two rows tells follows from two tests: is the first at least the second at every place, and the second the first.
 -- Assumes nothing.
 use Prim.Native.Nat.{ℕ, _+_, _≤_, _<_}
-use native.Mathlib.Nat.{le-of-eq, le-antisymm}
+use native.Mathlib.Nat.{le-refl, le-of-eq, le-antisymm}
 use native.Mathlib.Numerals.{add-one}
 use native.Mathlib.Omega.{arith}
 use mathlib.Core.Path.{_≡_, refl, ap, sym, _∙_}
-use mathlib.Core.Bool.{Bool, true, false, cond, not}
+use mathlib.Core.Bool.{Bool, true, false, cond, not, true≢false}
 use lib.Dec.{leb}
 use borrow.Author.Tests.{le-leb, lt-leb}
 use Rattle.rules.specs.Loops.{_and_, every}
-use Rattle.rules.specs.Rows.{atLeast, alike, later, split, Order, bothAlike, firstLater, secondLater, bothSplit, rowOrder}
+use Rattle.rules.specs.Rows.{atLeast, alike, later, Comparison, bothAlike, mineLater, copyLater, bothSplit, rowOrder, isAlike, isCopyLater, isSplit}
 use Rattle.rules.proofs.Loops.Logic as logic
 use Rattle.rules.proofs.Loops.Logic.{and-left, and-right, and-both, and-true, and-right-fails}
 use Rattle.rules.proofs.Take.Order.{at-least-at, at-least-all, alike-at, alike-all}
 
 -- In the product order: rows at least each other are alike; one that is so alone is later; with neither so they are split, a fork.
-abbrev pub orderBy : Bool → Bool → Order
-orderBy x y = cond x (cond y bothAlike firstLater) (cond y secondLater bothSplit)
-
--- does a result say that the rows are split; that the second is later; that they are alike
-abbrev pub isSplit : Order → Bool
-isSplit bothAlike = false
-isSplit firstLater = false
-isSplit secondLater = false
-isSplit bothSplit = true
-
-abbrev pub isSecondLater : Order → Bool
-isSecondLater bothAlike = false
-isSecondLater firstLater = false
-isSecondLater secondLater = true
-isSecondLater bothSplit = false
-
-abbrev pub isAlike : Order → Bool
-isAlike bothAlike = true
-isAlike firstLater = false
-isAlike secondLater = false
-isAlike bothSplit = false
+abbrev pub orderBy : Bool → Bool → Comparison
+orderBy x y = cond x (cond y bothAlike mineLater) (cond y copyLater bothSplit)
 
 -- one place more, as a program's loop counts,
 at-least-next : (k : ℕ) (f g : ℕ → ℕ) → atLeast (k + 1) f g ≡ atLeast k f g and leb (g k) (f k)
@@ -62,39 +43,40 @@ module _ (m : ℕ) (f g : ℕ → ℕ) where
   unfolding rowOrder later _and_
   row-order = rw (alike-both m f g, alike-both m g f) (go (atLeast m f g) (atLeast m g f))
     where
-      go : (x y : Bool) → cond (x and y) bothAlike (cond (x and not (x and y)) firstLater (cond (y and not (y and x)) secondLater bothSplit)) ≡ orderBy x y
+      go : (x y : Bool) → cond (x and y) bothAlike (cond (x and not (x and y)) mineLater (cond (y and not (y and x)) copyLater bothSplit)) ≡ orderBy x y
       go true true = refl
       go true false = refl
       go false true = refl
       go false false = refl
 
-  -- split exactly where the result says so, and so for the second later
-  pub split-told : {o : Order} → o ≡ rowOrder m f g → split m f g ≡ isSplit o
-  unfolding rowOrder split _and_
-  split-told e = go (alike m f g) (later m f g) (later m g f) ∙ ap isSplit (sym e)
+  -- alike exactly where the comparison tells so
+  pub alike-told : isAlike (rowOrder m f g) ≡ alike m f g
+  unfolding _and_
+  alike-told = ap isAlike row-order ∙ go (atLeast m f g) (atLeast m g f) ∙ sym (alike-both m f g)
     where
-      go : (a l k : Bool) → not a and not l and not k ≡ isSplit (cond a bothAlike (cond l firstLater (cond k secondLater bothSplit)))
-      go true l k = refl
-      go false true k = refl
-      go false false true = refl
-      go false false false = refl
-
-  pub second-told : {o : Order} → o ≡ rowOrder m f g → later m g f ≡ isSecondLater o
-  unfolding later _and_
-  second-told e = rw (alike-both m g f) (go (atLeast m f g) (atLeast m g f)) ∙ ap isSecondLater (sym (e ∙ row-order))
-    where
-      go : (x y : Bool) → y and not (y and x) ≡ isSecondLater (orderBy x y)
+      go : (x y : Bool) → isAlike (orderBy x y) ≡ x and y
       go true true = refl
       go true false = refl
       go false true = refl
       go false false = refl
 
-  pub alike-told : {o : Order} → o ≡ rowOrder m f g → alike m f g ≡ isAlike o
-  unfolding rowOrder
-  alike-told e = go (alike m f g) (later m f g) (later m g f) ∙ ap isAlike (sym e)
+  -- of two rows that are not split the later or common one is their least upper bound
+  pub record LeastAbove (top : ℕ → ℕ) : Type 0 where
+    pub mine : atLeast m top f ≡ true
+    pub copy : atLeast m top g ≡ true
+    pub least : (x : ℕ → ℕ) → atLeast m x f ≡ true → atLeast m x g ≡ true → atLeast m x top ≡ true
+
+  pub latest-bound : isSplit (rowOrder m f g) ≡ false → LeastAbove (cond (isCopyLater (rowOrder m f g)) g f)
+  latest-bound = rw row-order (go (atLeast m f g) (atLeast m g f) refl refl)
     where
-      go : (a l k : Bool) → a ≡ isAlike (cond a bothAlike (cond l firstLater (cond k secondLater bothSplit)))
-      go true l k = refl
-      go false true k = refl
-      go false false true = refl
-      go false false false = refl
+      itself : (f : ℕ → ℕ) → atLeast m f f ≡ true
+      itself f = at-least-all m f f (λ c l. le-refl (f c))
+
+      first : atLeast m f g ≡ true → LeastAbove f
+      first e = record { mine = itself f; copy = e; least = λ x a b. a }
+
+      go : (x y : Bool) → atLeast m f g ≡ x → atLeast m g f ≡ y → isSplit (orderBy x y) ≡ false → LeastAbove (cond (isCopyLater (orderBy x y)) g f)
+      go true true e d s = first e
+      go true false e d s = first e
+      go false true e d s = record { mine = d; copy = itself g; least = λ x a b. b }
+      go false false e d s = absurd (true≢false s)

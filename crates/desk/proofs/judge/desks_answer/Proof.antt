@@ -9,6 +9,7 @@ use mathlib.Core.List.{List}
 use lib.Dec.{eqb}
 use borrow.Author.Needs.{needs}
 use Rattle.rules.specs.Layout.{rowLength}
+use Rattle.rules.specs.Rows.{compared}
 use Rattle.rules.specs.Take.{rowAnswer}
 use Rattle.rules.proofs.File.Body.{row-within}
 use Rattle.book.proofs.Passed.{Passed, none-asked, next-passed, refused-first, all-passed}
@@ -17,7 +18,7 @@ use Rattle.desk.proofs.judge.desks_answer.Statement.{statement}
 use Rattle.desk.proofs.judge.desks_answer.Tie as tie
 
 abbrev answers : List ℕ → List ℕ → ℕ → ℕ → ℕ → ℕ → ℕ
-answers own copy n at desk i = rowAnswer (eqb i desk) (rowIn n (at + suc i * rowLength n) own) (rowIn n (at + suc i * rowLength n) copy)
+answers own copy n at desk i = rowAnswer (eqb i desk) (compared (rowIn n (at + suc i * rowLength n) own) (rowIn n (at + suc i * rowLength n) copy))
 
 abbrev Inv-loop : tie.InvT-loop
 Inv-loop own copy n at desk row from₀ i₀ from i = (from ≡ at + suc i * rowLength n) × Passed n (answers own copy n at desk) i
@@ -47,7 +48,7 @@ answered c =
     let at = c .before .before in
     let a = start at .args in
     c .row-answer .ensures
-    ∙ ap (λ (x : ℕ). rowAnswer (eqb (at .loop .i) (a .desk)) (rowIn (a .n) x (a .own .now)) (rowIn (a .n) x (a .copy .now))) (at .loop .inv .0)
+    ∙ ap (λ (x : ℕ). rowAnswer (eqb (at .loop .i) (a .desk)) (compared (rowIn (a .n) x (a .own .now)) (rowIn (a .n) x (a .copy .now)))) (at .loop .inv .0)
 
 add-row : tie.Need-add-row Inv-loop μ-loop
 add-row c = search needs

@@ -8,6 +8,7 @@ use lib.Dec.{eqb}
 use borrow.Author.Needs.{needs}
 use Rattle.rules.specs.Refusals.{first}
 use Rattle.rules.specs.Layout.{rowLength, bodyAt, position}
+use Rattle.rules.specs.Rows.{compared}
 use Rattle.rules.specs.Take.{rowAnswer}
 use Rattle.rules.proofs.File.Written.{body-within}
 use Rattle.book.proofs.Passed.{Passed, none-asked, next-passed, refused-first, all-passed}
@@ -17,7 +18,7 @@ use Rattle.desk.proofs.judge.piles_answer.Tie as tie
 
 -- the answer of a pile whose body starts at a position
 abbrev answer : List ℕ → List ℕ → ℕ → ℕ → ℕ → ℕ
-answer own copy n desk at = first n (λ i. rowAnswer (eqb i desk) (rowIn n (at + suc i * rowLength n) own) (rowIn n (at + suc i * rowLength n) copy))
+answer own copy n desk at = first n (λ i. rowAnswer (eqb i desk) (compared (rowIn n (at + suc i * rowLength n) own) (rowIn n (at + suc i * rowLength n) copy)))
 
 abbrev Inv-loop : tie.InvT-loop
 Inv-loop own copy n p desk k₀ k = Passed p (λ j. answer own copy n desk (bodyAt n p j)) k

@@ -1,12 +1,21 @@
 -- `row_answer` goes by what comparing the two rows tells.
 -- Assumes nothing.
-use mathlib.Core.Path.{refl, sym, _∙_, ap}
+use mathlib.Core.Path.{_≡_, ap, sym, _∙_}
+use mathlib.Core.Bool.{Bool}
 use borrow.Author.Needs.{needs}
-use Rattle.rules.proofs.Loops.Logic.{and-false, and-both, and-left-fails}
-use Rattle.rows.specs.Orders.{asOrder}
-use Rattle.desk.proofs.Judged.{row-passes, row-31, row-32}
+use Rattle.rules.specs.Loops.{_and_}
+use Rattle.rules.specs.Refusals.{_when_, _orElse_}
+use Rattle.rules.specs.Numbers.{part}
+use Rattle.rules.specs.Rows.{compared}
+use Rattle.rules.specs.Take.{rowAnswer}
+use Rattle.rows.specs.declared.Comparison.{Comparison}
+use Rattle.rows.specs.Comparisons.{asComparison}
 use Rattle.desk.proofs.judge.row_answer.Statement.{statement}
 use Rattle.desk.proofs.judge.row_answer.Tie as tie
+
+told : (c : tie.After-compare-at) {o : Comparison} → c .compare-at .result ≡ o → let a = c .before .before .before .args in
+    rowAnswer (a .mine) (asComparison o) ≡ rowAnswer (a .mine) (compared (part (a .at) (a .row) (a .own .now)) (part (a .at) (a .row) (a .copy .now)))
+told c e = ap (rowAnswer (c .before .before .before .args .mine)) (sym (ap asComparison e) ∙ c .compare-at .ensures)
 
 compare-at-requires : tie.Need-compare-at-requires
 compare-at-requires c κs = search needs
@@ -21,22 +30,34 @@ enum-told-3 : tie.Need-enum-told-3
 enum-told-3 c = search needs
 
 returns : tie.Need-returns
-returns c = row-32 _ _ _ (sym (ap asOrder (c .before .enum-told3 .given .1)) ∙ c .before .before .before .compare-at .ensures) refl (and-both (c .if1 .taken) refl)
+unfolding rowAnswer _when_ _orElse_ _and_
+returns c = sym (ap (λ (mine : Bool). 32 when mine) (c .if1 .taken)) ∙ told (c .before .before .before) (c .before .enum-told3 .given .1)
 
 enum-told-4 : tie.Need-enum-told-4
 enum-told-4 c = search needs
 
+enum-told-5 : tie.Need-enum-told-5
+enum-told-5 c = search needs
+
 returns-2 : tie.Need-returns-2
-returns-2 c = row-passes _ _ _ (sym (ap asOrder (c .enum-told .given .1)) ∙ c .before .before .compare-at .ensures) refl (and-false _)
+unfolding rowAnswer _when_ _orElse_ _and_
+returns-2 c = told (c .before .before) (c .enum-told .given .1)
 
 returns-3 : tie.Need-returns-3
-returns-3 c = row-passes _ _ _ (sym (ap asOrder (c .enum-told2 .given .1)) ∙ c .before .before .compare-at .ensures) refl (and-false _)
+unfolding rowAnswer _when_ _orElse_ _and_
+returns-3 c = told (c .before .before) (c .enum-told2 .given .1)
 
 returns-4 : tie.Need-returns-4
-returns-4 c = row-passes _ _ _ (sym (ap asOrder (c .before .enum-told3 .given .1)) ∙ c .before .before .before .compare-at .ensures) refl (and-left-fails (c .if1 .left) _)
+unfolding rowAnswer _when_ _orElse_ _and_
+returns-4 c = sym (ap (λ (mine : Bool). 32 when mine) (c .if1 .left)) ∙ told (c .before .before .before) (c .before .enum-told3 .given .1)
 
 returns-5 : tie.Need-returns-5
-returns-5 c = row-31 _ _ _ (sym (ap asOrder (c .enum-told4 .given .1)) ∙ c .before .before .compare-at .ensures) refl
+unfolding rowAnswer _when_ _orElse_ _and_
+returns-5 c = told (c .before .before) (c .enum-told4 .given .1)
+
+returns-6 : tie.Need-returns-6
+unfolding rowAnswer _when_ _orElse_ _and_
+returns-6 c = told (c .before .before) (c .enum-told5 .given .1)
 
 pub row-answer-spec : {M : Type 1} → statement M
 row-answer-spec =
@@ -48,7 +69,9 @@ row-answer-spec =
     enum-told-3
     returns
     enum-told-4
+    enum-told-5
     returns-2
     returns-3
     returns-4
-    returns-5)
+    returns-5
+    returns-6)

@@ -11,7 +11,7 @@ use borrow.Author.Needs.{needs}
 use borrow.Author.Tests.{eq-eqb, ne-eqb}
 use Rattle.rules.specs.Loops.{_and_}
 use Rattle.rules.specs.Layout.{rowLength, bodyAt, pileNumber, position}
-use Rattle.rules.specs.Rows.{alike, numbersOf, places}
+use Rattle.rules.specs.Rows.{compared, isAlike}
 use Rattle.rules.proofs.Loops.Logic.{holds, fails, and-both, and-left-fails, and-right-fails}
 use Rattle.rules.proofs.File.Body.{row-within}
 use Rattle.rules.proofs.File.Written.{body-within}
@@ -22,7 +22,7 @@ use Rattle.desk.proofs.judge.same_piles.Tie as tie
 
 -- are the rows at a position alike
 abbrev alikeAt : ℕ → List ℕ → List ℕ → ℕ → Bool
-alikeAt n own copy at = alike (places (rowIn n at own)) (numbersOf (rowIn n at own)) (numbersOf (rowIn n at copy))
+alikeAt n own copy at = isAlike (compared (rowIn n at own) (rowIn n at copy))
 
 abbrev Inv-loop : tie.InvT-loop
 Inv-loop own copy n p k₀ k = Held p (λ j. eqb (pileNumber own j) (pileNumber copy j) and alikeAt n own copy (bodyAt n p j)) k
