@@ -90,7 +90,7 @@ add-take-rows-2 : tie.Need-add-take-rows-2
 add-take-rows-2 c = search (needs, facts (before c) .sizes .desks-most)
 
 mul-take-rows-2 : tie.Need-mul-take-rows-2
-mul-take-rows-2 c = search (needs, rows-most (before c))
+mul-take-rows-2 c = search (needs, rows-most (before c), facts (before c) .sizes .desks-most)
 
 take-rows-requires : tie.Need-take-rows-requires
 unfolding rowLength
