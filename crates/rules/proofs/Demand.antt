@@ -1,5 +1,6 @@
 -- Demand 3 of the book. Grown and Runs: the book after a list of entered acts. Monotone, EqualBooks and BookLaws: its five laws, and so demand 3.
--- Between; Spent and Reached: what a desk's own book tells of all acts made. Consequences: what the claims say in plain terms.
+-- Between; Spent and Reached: what a desk's own book tells of all acts made. Consequences: what the claims say in plain terms. News: what a
+-- take's report says of acts.
 pub mod Grown
 pub mod Runs
 pub mod Monotone
@@ -9,3 +10,4 @@ pub mod Between
 pub mod Spent
 pub mod Reached
 pub mod Consequences
+pub mod News
