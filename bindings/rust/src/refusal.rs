@@ -49,7 +49,7 @@ macro_rules! refusals {
 refusals! {
     BookShort = 1, "book short", "The book has fewer than 4 bytes.";
     HeadWrong = 2, "head wrong", "The book's head is wrong; of an opening or a record, the number of desks or piles is out of range.";
-    LengthWrong = 3, "length wrong", "The book's length is not as its head says; of an opening, a pile has not one share of each kind for each desk; a ticket has not 11 bytes, or a list of tickets not whole ones, or over 4,096.";
+    LengthWrong = 3, "length wrong", "The book's length is not as its head says; of an opening, a pile has not one share of each kind for each desk; two rows differ in length or have the length of no row; a ticket has not 11 bytes, or a list of tickets not whole ones, or over 4,096.";
     ContentsWrong = 4, "contents wrong", "A pile number or position is wrong: numbers are 1 to 65,535 and rise strictly.";
     OpeningUnlawful = 5, "opening unlawful", "An opening is unlawful: floor ≤ top ≤ 10,000,000, and all shares add up to top − floor; those of a record past its desks are 0.";
     TallyWrong = 6, "tally wrong", "A tally is over its limit, or a desk gives to itself; of a record, a tally past its desks is not 0.";

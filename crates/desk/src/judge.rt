@@ -45,15 +45,15 @@ fn alike_at(own: &[u8], copy: &[u8], at: usize, row: usize) -> bool
 }
 
 // 31 where the rows at one position are split, 32 where they are the taker's own and the copy's is later.
-fn row_answer(own: &[u8], copy: &[u8], at: usize, row: usize, mine: bool) -> u8
+fn row_answer(own: &[u8], copy: &[u8], at: usize, row: usize, takers: bool) -> u8
     requires { ⌜ InBoth at row (now own) (now copy) ⌝ }
-    ensures { λ r. ⌜ r ≡ rowAnswer mine (compared (part at row (now (own .entry))) (part at row (now (copy .entry)))) ⌝ }
+    ensures { λ r. ⌜ r ≡ rowAnswer takers (compared (part at row (now (own .entry))) (part at row (now (copy .entry)))) ⌝ }
 {
     match compare_at(own, copy, at, row) {
         Comparison::Alike => 0,
         Comparison::MineLater => 0,
         Comparison::CopyLater => {
-            if mine {
+            if takers {
                 return 32;
             }
             0

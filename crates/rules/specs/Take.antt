@@ -28,9 +28,9 @@ sameBook own copy =
     and eqb (piles own) (piles copy)
     and every (piles own) (λ k. eqb (pileNumber own k) (pileNumber copy k) and sameOpening (desks own) (pileOf own k) (pileOf copy k))
 
--- "by pile, then by desk": 31, and at the taker's own desk 32, by what comparing the own row and the copy's tells
+-- "by pile, then by desk": 31, and where the rows are those of the taker's own desk 32, by what comparing the two tells
 unfoldable pub rowAnswer : Bool → Comparison → ℕ
-rowAnswer mine rows = 31 when isSplit rows orElse 32 when (isCopyLater rows and mine)
+rowAnswer takers rows = 31 when isSplit rows orElse 32 when (isCopyLater rows and takers)
 
 unfoldable pub takeAnswer : ℕ → List ℕ → List ℕ → ℕ
 takeAnswer d own copy =

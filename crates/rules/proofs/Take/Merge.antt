@@ -73,10 +73,10 @@ module _ (n p : ℕ) (numbers : ℕ → ℕ) (frame : Frame n p numbers) (P Q R 
       (none-met
       (not-met 31 (no-split n i (frame .sizes .desks-least) (frame .sizes .desks-most) i<n (P k) (Q k) (fitsP k k<p) (fitsQ k k<p)
       (⊎-map (λ h. h .0) (λ h. h .0) (merged k k<p .desk i i<n))))
-      (not-met 32 (⊎-elim mine (λ e. and-right-fails _ e) (decided (eqb i d)))))
+      (not-met 32 (⊎-elim takers (λ e. and-right-fails _ e) (decided (eqb i d)))))
     where
-      mine : eqb i d ≡ true → isCopyLater (compared (row n (P k) i) (row n (Q k) i)) and eqb i d ≡ false
-      mine e =
+      takers : eqb i d ≡ true → isCopyLater (compared (row n (P k) i) (row n (Q k) i)) and eqb i d ≡ false
+      takers e =
           and-left-fails
           (not-later n i (frame .sizes .desks-least) (frame .sizes .desks-most) i<n (P k) (Q k) (fitsP k k<p) (fitsQ k k<p)
           (rw (eqb-true i d e) (ahead k k<p)))

@@ -14,8 +14,8 @@ use Rattle.desk.proofs.judge.row_answer.Statement.{statement}
 use Rattle.desk.proofs.judge.row_answer.Tie as tie
 
 told : (c : tie.After-compare-at) {o : Comparison} → c .compare-at .result ≡ o → let a = c .before .before .before .args in
-    rowAnswer (a .mine) (asComparison o) ≡ rowAnswer (a .mine) (compared (part (a .at) (a .row) (a .own .now)) (part (a .at) (a .row) (a .copy .now)))
-told c e = ap (rowAnswer (c .before .before .before .args .mine)) (sym (ap asComparison e) ∙ c .compare-at .ensures)
+    rowAnswer (a .takers) (asComparison o) ≡ rowAnswer (a .takers) (compared (part (a .at) (a .row) (a .own .now)) (part (a .at) (a .row) (a .copy .now)))
+told c e = ap (rowAnswer (c .before .before .before .args .takers)) (sym (ap asComparison e) ∙ c .compare-at .ensures)
 
 compare-at-requires : tie.Need-compare-at-requires
 compare-at-requires c κs = search needs
@@ -31,7 +31,7 @@ enum-told-3 c = search needs
 
 returns : tie.Need-returns
 unfolding rowAnswer _when_ _orElse_ _and_
-returns c = sym (ap (λ (mine : Bool). 32 when mine) (c .if1 .taken)) ∙ told (c .before .before .before) (c .before .enum-told3 .given .1)
+returns c = sym (ap (λ (takers : Bool). 32 when takers) (c .if1 .taken)) ∙ told (c .before .before .before) (c .before .enum-told3 .given .1)
 
 enum-told-4 : tie.Need-enum-told-4
 enum-told-4 c = search needs
@@ -49,7 +49,7 @@ returns-3 c = told (c .before .before) (c .enum-told2 .given .1)
 
 returns-4 : tie.Need-returns-4
 unfolding rowAnswer _when_ _orElse_ _and_
-returns-4 c = sym (ap (λ (mine : Bool). 32 when mine) (c .if1 .left)) ∙ told (c .before .before .before) (c .before .enum-told3 .given .1)
+returns-4 c = sym (ap (λ (takers : Bool). 32 when takers) (c .if1 .left)) ∙ told (c .before .before .before) (c .before .enum-told3 .given .1)
 
 returns-5 : tie.Need-returns-5
 unfolding rowAnswer _when_ _orElse_ _and_
