@@ -108,19 +108,24 @@ fn refused_stores() {
     assert_eq!(refused(7, moved), Refusal::OpeningDiffers);
 }
 
-#[test]
-fn compared_rows() {
-    let (f, g) = (f(), g());
-    let mut other = f.clone();
+/// The row of desk 0 in F, in G and where it acted twice from F.
+fn rows_of_desk_0() -> [Vec<u8>; 3] {
+    let mut other = f();
     other.tip(0, 7, 31).unwrap();
     let row = row_length(3);
-    let [f0, g0, other0] = [&f, &g, &other].map(|book| &book.body(7).unwrap()[row..2 * row]);
+    [f(), g(), other].map(|book| book.body(7).unwrap()[row..2 * row].to_vec())
+}
+
+#[test]
+fn compared_rows() {
+    let rows = rows_of_desk_0();
+    let [f0, g0, other0] = rows.each_ref().map(|row| &row[..]);
     assert_eq!(compare_rows(g0, g0), Ok(RowOrder::Alike));
     assert_eq!(compare_rows(g0, f0), Ok(RowOrder::MineLater));
     assert_eq!(compare_rows(f0, g0), Ok(RowOrder::CopyLater));
     assert_eq!(compare_rows(g0, other0), Ok(RowOrder::Split));
     let wrong = Err(Refusal::LengthWrong);
-    assert_eq!(compare_rows(f0, &g0[..row - 8]), wrong);
+    assert_eq!(compare_rows(f0, &g0[..24]), wrong);
     assert_eq!(compare_rows(&f0[1..], &g0[1..]), wrong);
     assert_eq!(compare_rows(&[], &[]), wrong);
     assert_eq!(compare_rows(&[0; 80], &[0; 80]), wrong);
@@ -128,17 +133,14 @@ fn compared_rows() {
 
 #[test]
 fn later_rows() {
-    let (f, g) = (f(), g());
-    let mut other = f.clone();
-    other.tip(0, 7, 31).unwrap();
-    let row = row_length(3);
-    let [f0, g0, other0] = [&f, &g, &other].map(|book| &book.body(7).unwrap()[row..2 * row]);
+    let rows = rows_of_desk_0();
+    let [f0, g0, other0] = rows.each_ref().map(|row| &row[..]);
     assert!(std::ptr::eq(later_row(f0, g0).unwrap(), g0));
     assert!(std::ptr::eq(later_row(g0, f0).unwrap(), g0));
     let alike = g0.to_vec();
     assert!(std::ptr::eq(later_row(&alike, g0).unwrap(), &alike[..]));
     assert_eq!(later_row(g0, other0), None);
-    assert_eq!(later_row(f0, &g0[..row - 8]), None);
+    assert_eq!(later_row(f0, &g0[..24]), None);
     assert_eq!(later_row(&f0[1..], &g0[1..]), None);
     assert_eq!(later_row(&[], &[]), None);
     assert_eq!(later_row(&[0; 80], &[0; 80]), None);
