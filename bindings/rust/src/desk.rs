@@ -65,8 +65,8 @@ impl<B: AsMut<[u8]>> Book<B> {
     }
 
     /// A desk, whose own newest book this is, takes in the copy of another desk's book: afterwards this book holds the acts of both. The
-    /// copy may be old, or taken before. Tells the number of pile and desk pairs whose row changed: 0 exactly when the copy brought nothing
-    /// and the book's bytes are as they were, so that it need not be relayed.
+    /// copy may be old, or taken before. Tells the number of pile and desk pairs whose row changed: 0 exactly when the book's bytes are as
+    /// they were, since the copy held no act that this book lacked.
     ///
     /// Refused where the copy is no lawful book (`Copy…`), with [`DeskAbsent`](Refusal::DeskAbsent), where it is a copy of another book
     /// ([`OpeningDiffers`](Refusal::OpeningDiffers)), and where some desk acted twice from one old book

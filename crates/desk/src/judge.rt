@@ -44,7 +44,7 @@ fn alike_at(own: &[u8], copy: &[u8], at: usize, row: usize) -> bool
     }
 }
 
-// 31 where the rows at one position are split, 32 where they are the taker's own and the copy's is later.
+// 31 where the rows at one position are split; 32 where they are those of the taker's own desk, as `takers` says, and the copy's is later.
 fn row_answer(own: &[u8], copy: &[u8], at: usize, row: usize, takers: bool) -> u8
     requires { ⌜ InBoth at row (now own) (now copy) ⌝ }
     ensures { λ r. ⌜ r ≡ rowAnswer takers (compared (part at row (now (own .entry))) (part at row (now (copy .entry)))) ⌝ }

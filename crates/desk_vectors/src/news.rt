@@ -9,37 +9,18 @@ use desk::tip;
 
 const LENGTH: usize = 406;
 
-// Each pile has floor 0, top 60 and all six shares 10.
+// Each of the piles 1, 2 and 3 has floor 0, top 60 and all six shares 10.
 fn opened() -> [u8; LENGTH] {
-    let numbers = [
-        1,
-        0,
-        60,
-        10,
-        10,
-        10,
-        10,
-        10,
-        10,
-        2,
-        0,
-        60,
-        10,
-        10,
-        10,
-        10,
-        10,
-        10,
-        3,
-        0,
-        60,
-        10,
-        10,
-        10,
-        10,
-        10,
-        10,
-    ];
+    let mut numbers = [10; 27];
+    numbers[0] = 1;
+    numbers[1] = 0;
+    numbers[2] = 60;
+    numbers[9] = 2;
+    numbers[10] = 0;
+    numbers[11] = 60;
+    numbers[18] = 3;
+    numbers[19] = 0;
+    numbers[20] = 60;
     let before = [0u8; LENGTH];
     let mut book = before;
     let answer = open(3, 3, &numbers, &mut book);

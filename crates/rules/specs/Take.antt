@@ -28,7 +28,7 @@ sameBook own copy =
     and eqb (piles own) (piles copy)
     and every (piles own) (λ k. eqb (pileNumber own k) (pileNumber copy k) and sameOpening (desks own) (pileOf own k) (pileOf copy k))
 
--- "by pile, then by desk": 31, and where the rows are those of the taker's own desk 32, by what comparing the two tells
+-- "by pile, then by desk": 31, and where the two rows are those of the taker's own desk, which is the first argument, 32; by what comparing them tells
 unfoldable pub rowAnswer : Bool → Comparison → ℕ
 rowAnswer takers rows = 31 when isSplit rows orElse 32 when (isCopyLater rows and takers)
 

@@ -11,13 +11,14 @@ use Rattle.history.specs.Replica.{Call, take, Valid}
 use Rattle.history.specs.Books.{at, books}
 use Rattle.history.specs.Ledger.{Acts, gained, ledger}
 use Rattle.history.specs.Guarantees.{_⊆_}
+use Rattle.history.specs.Claim.{Claim}
 use Rattle.history.proofs.Sets.{left, right, or-split, equal-sets}
 use Rattle.history.proofs.Moments.{past, past-state, next}
 use Rattle.rules.specs.Acts.{Act}
 use Rattle.rules.specs.Layout.{bookLength}
 use Rattle.rules.specs.Opening.{openingAnswer, opened}
 use Rattle.rules.specs.Take.{afterTake, takeReport}
-use Rattle.rules.specs.Demand.{book}
+use Rattle.rules.specs.Demand.{book, Within}
 use Rattle.rules.proofs.Take.Report.{report-zero}
 use Rattle.rules.proofs.Demand.BookLaws.{book-demand3}
 
@@ -39,6 +40,9 @@ module _ (n p : ℕ) (l : List ℕ) (accepted : openingAnswer n p l (bookLength 
   abbrev brought : Acts
   brought = ledger book start h m e
 
+  claim : Claim book n Within start (take d e m ∷ h)
+  claim = book-demand3 n p l accepted (take d e m ∷ h) valid
+
   -- the taker's book and set before the take, and after it
   before-book : books book start (take d e m ∷ h) (length h) d ≡ own
   before-book = past-state book start (take d e m) h (length h) d (le-refl _)
@@ -55,11 +59,12 @@ module _ (n p : ℕ) (l : List ℕ) (accepted : openingAnswer n p l (bookLength 
 
   same-book : (own ≡ afterTake d own copy) ↔ ((place : ℕ) → held place ≡ gained held brought place)
   same-book =
-      rw (before-book, after-book, before-set, after-set) at (book-demand3 n p l accepted (take d e m ∷ h) valid .exact (length h) d (suc (length h)) d (le-step (le-refl _)) (valid .0) (le-refl _) (valid .0))
+      rw (before-book, after-book, before-set, after-set)
+      at (claim .exact (length h) d (suc (length h)) d (le-step (le-refl _)) (valid .0) (le-refl _) (valid .0))
 
   pub nothing-new : (takeReport d own copy ≡ 0) ↔ (brought ⊆ held)
   nothing-new =
-      let zero = report-zero d own copy (book-demand3 n p l accepted (take d e m ∷ h) valid .taken .0) in (
+      let zero = report-zero d own copy (claim .taken .0) in (
         λ none q b. same-book .0 (sym (zero .0 none)) q ∙ right held brought q b,
         λ sub. zero .1 (sym (same-book .1 (λ q. ap (λ (S : Acts). S q)
             (equal-sets (left held brought) (λ q b. ⊎-elim (λ own. own) (sub q) (or-split (held q) b)))))),
