@@ -6,7 +6,8 @@
 //!
 //! [`Opening`] makes a book, [`Book`] is one over a caller's bytes, with its queries, the four acts and the take, [`Record`] is a pile of it
 //! by value, [`compare_rows`] tells which of two rows is later, [`Ticket`] is a load's record from the weighbridge, [`reconcile`] compares two
-//! lists of those, and [`Refusal`] says why a call was refused. [`raw`] has the functions of the static library, which is proved to answer as document 01 has it.
+//! lists of those, and [`Refusal`] says why a call was refused. [`raw`] has the functions of the static library, which is proved to answer as
+//! document 01 has it.
 //!
 //! ```
 //! use pitbook::{Opening, Refusal};

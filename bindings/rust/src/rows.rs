@@ -43,7 +43,8 @@ pub fn compare_rows(mine: &[u8], copy: &[u8]) -> Result<RowOrder, Refusal> {
         1 => RowOrder::Alike,
         2 => RowOrder::MineLater,
         3 => RowOrder::CopyLater,
-        _ => RowOrder::Split,
+        4 => RowOrder::Split,
+        _ => unreachable!("the library tells an order from 1 to 4"),
     })
 }
 

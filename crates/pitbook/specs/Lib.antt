@@ -1,4 +1,3 @@
 pub mod Queries
 pub mod Contents
 pub mod Numbers
-pub mod Comparisons

@@ -6,6 +6,8 @@ use mathlib.Core.List.{List, []}
 use lib.ListN.{length}
 use lib.Dec.{leb, eqb}
 use Rattle.rules.specs.Loops.{_and_, every, some}
+use Rattle.rules.specs.Refusals as reply
+use Rattle.rules.specs.Refusals.{Reply, value}
 use Rattle.rules.specs.Numbers.{number}
 use Rattle.rules.specs.Layout.{rowLength}
 
@@ -29,6 +31,14 @@ pub data Comparison : Type 0 where
 -- Split: the rows differ with neither later (a fork: the desk acted twice from one old book).
 unfoldable pub rowOrder : ℕ → (ℕ → ℕ) → (ℕ → ℕ) → Comparison
 rowOrder m mine copy = cond (alike m mine copy) bothAlike (cond (later m mine copy) mineLater (cond (later m copy mine) copyLater bothSplit))
+
+-- a comparison as a reply in numbers: the four as 1 to 4, in the order of the request, or the refusal's number alone
+abbrev pub orderReply : Comparison → Reply
+orderReply bothAlike = value 1
+orderReply mineLater = value 2
+orderReply copyLater = value 3
+orderReply bothSplit = value 4
+orderReply (refused number) = reply.refused number
 
 -- does a comparison tell that the rows are alike; that the copy's is later; that they are split
 abbrev pub isAlike : Comparison → Bool

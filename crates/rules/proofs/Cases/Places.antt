@@ -10,13 +10,13 @@ use Rattle.rules.specs.Loops.{list}
 use Rattle.rules.specs.Numbers.{bytes, encode}
 use Rattle.rules.specs.Pile.{draw, tip, tallyLimit}
 use Rattle.rules.specs.Acts.{spend, give}
-use Rattle.rules.specs.Rows.{compared, laterRow}
+use Rattle.rules.specs.Rows.{compared, orderReply, laterRow}
 use Rattle.rules.specs.Opening.{bufferLength, openingAnswer, opened, afterOpening}
 use Rattle.rules.specs.Book.{bookAnswer, contentsAnswer, afterContents, fetchAnswer, bodyPart, bodyStart, tonnageReply, rightsReply, actAnswer}
 use Rattle.rules.specs.Record.{Record, zeroRecord, recordAnswer, recordTonnageReply, recordRightsReply, recordActAnswer, fetched, storeAnswer}
 use Rattle.rules.specs.Bounds.{boundReply, recordBoundReply, recordBounds}
 use Rattle.rules.specs.Take.{takeAnswer, afterTake}
-use Rattle.rules.proofs.Cases.Table.{Case, case, AllHold, all-hold, shown, told, takes, actOn, enter, open-loops, open-refusals, open-numbers, open-pile, open-acts, open-layout, open-rows, open-opening, open-book, open-record, open-take, open-bounds}
+use Rattle.rules.proofs.Cases.Table.{Case, case, AllHold, all-hold, shown, takes, actOn, enter, open-loops, open-refusals, open-numbers, open-pile, open-acts, open-layout, open-rows, open-opening, open-book, open-record, open-take, open-bounds}
 use Rattle.rules.proofs.Cases.Letters.{F}
 
 -- H: 2 desks; pile 5 with floor 10, top 50, draw shares 4, 6, tip shares 20, 10; pile 9 with floor 0, top 8, draw shares 1, 2, tip shares 3, 2.
@@ -222,13 +222,13 @@ table =
     (takes 1 (enter 1 9 (spend draw) 1 H) (enter 0 9 (give tip 1) 2 (enter 0 5 (spend tip) 2 H)))
     (0 ∷ 2 ∷ enter 0 9 (give tip 1) 2 (enter 0 5 (spend tip) 2 (enter 1 9 (spend draw) 1 H)))
     ∷ case "Comparing rows: alike, mine later, the copy's later, split; 3 for rows of two lengths or of no book's length"
-    (told (compared (encode early) (encode early))
-    ++ told (compared (encode later) (encode early))
-    ++ told (compared (encode early) (encode later))
-    ++ told (compared (encode later) (encode split-off))
-    ++ told (compared (encode early) (encode (early ++ (0 ∷ 0 ∷ []))))
-    ++ told (compared (encode (list 20 (λ c. c))) (encode (list 20 (λ c. c))))
-    ++ told (compared (encode (0 ∷ 0 ∷ [])) (encode (0 ∷ 0 ∷ []))))
+    (shown (orderReply (compared (encode early) (encode early)))
+    ++ shown (orderReply (compared (encode later) (encode early)))
+    ++ shown (orderReply (compared (encode early) (encode later)))
+    ++ shown (orderReply (compared (encode later) (encode split-off)))
+    ++ shown (orderReply (compared (encode early) (encode (early ++ (0 ∷ 0 ∷ [])))))
+    ++ shown (orderReply (compared (encode (list 20 (λ c. c))) (encode (list 20 (λ c. c)))))
+    ++ shown (orderReply (compared (encode (0 ∷ 0 ∷ [])) (encode (0 ∷ 0 ∷ [])))))
     (0 ∷ 1 ∷ 0 ∷ 2 ∷ 0 ∷ 3 ∷ 0 ∷ 4 ∷ 3 ∷ 3 ∷ 3 ∷ [])
     ∷ case "The later row: whichever is later; empty where split, of two lengths, or of no book's length"
     (laterRow (encode early) (encode later)

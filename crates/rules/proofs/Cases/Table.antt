@@ -13,7 +13,6 @@ use Rattle.rules.specs.Numbers.{number, bytes, encode}
 use Rattle.rules.specs.Pile.{bothSides, credit, debit, rights, lawful, tonnage, openingLawful, talliesLawful, pileAnswer, sameOpening}
 use Rattle.rules.specs.Acts.{Kind, Act, actRefusal}
 use Rattle.rules.specs.Layout.{sizesInRange, rowLength, bodyLength, bodyAt, bookLength, cellAt, pileNumber, position, pileOf, rowOf, bodyRow, bodyBytes, entryBytes, bookBytes}
-use Rattle.rules.specs.Rows as rows
 use Rattle.rules.specs.Rows.{atLeast, alike, later, rowOrder, isRowLength, compared}
 use Rattle.rules.specs.Opening.{rising, given, givenPile, bufferLength, openingAnswer, opened, afterOpening}
 use Rattle.rules.specs.Book.{headSound, contentsSound, bookAnswer, place, absent, contentsAnswer, afterContents, fetchAnswer, bodyPart, bodyStart, tonnageReply, deskAnswer, rightsReply, actAnswer, tallyAt, afterAct}
@@ -62,14 +61,6 @@ all-hold (c ∷ cs) e = let h = both _ _ e in (same-numbers (c .got) (c .said) (
 abbrev pub shown : Reply → List ℕ
 shown (refused k) = k ∷ []
 shown (value x) = 0 ∷ x ∷ []
-
--- a comparison as numbers: alike, mine later, the copy's later and split as 1 to 4 behind 0, a refusal alone
-abbrev pub told : rows.Comparison → List ℕ
-told rows.bothAlike = 0 ∷ 1 ∷ []
-told rows.mineLater = 0 ∷ 2 ∷ []
-told rows.copyLater = 0 ∷ 3 ∷ []
-told rows.bothSplit = 0 ∷ 4 ∷ []
-told (rows.refused k) = k ∷ []
 
 -- what a take answers, what it reports, and the book after it
 abbrev pub takes : ℕ → List ℕ → List ℕ → List ℕ

@@ -3,20 +3,20 @@
 use Prim.Native.Nat.{ℕ}
 use mathlib.Core.Path.{_≡_, ap, sym, _∙_}
 use borrow.Author.Needs.{needs}
-use Rattle.rules.specs.Rows as rules
-use Rattle.rules.specs.Rows.{compared}
+use Rattle.rules.specs.Refusals.{Reply}
+use Rattle.rules.specs.Rows.{compared, orderReply}
 use Rattle.rows.specs.declared.Comparison.{Comparison}
 use Rattle.rows.specs.Comparisons.{asComparison}
-use Rattle.pitbook.specs.Comparisons.{comparisonAnswer, orderOr}
+use Rattle.pitbook.specs.Queries.{answerOf, valueOf}
 use Rattle.pitbook.proofs.compare.pit_compare.Statement.{statement}
 use Rattle.pitbook.proofs.compare.pit_compare.Tie as tie
 
 told : (c : tie.After-compare) {o : Comparison} → c .compare .result ≡ o → (before : ℕ) → let a = c .before .before .before .args in
-    let rows = compared (a .mine .now) (a .copy .now) in
-    (comparisonAnswer (asComparison o) ≡ comparisonAnswer rows) × (orderOr (asComparison o) before ≡ orderOr rows before)
+    let reply = orderReply (compared (a .mine .now) (a .copy .now)) in
+    (answerOf (orderReply (asComparison o)) ≡ answerOf reply) × (valueOf (orderReply (asComparison o)) before ≡ valueOf reply before)
 told c e before =
-    let is = sym (ap asComparison e) ∙ c .compare .ensures in
-    (ap comparisonAnswer is, ap (λ (rows : rules.Comparison). orderOr rows before) is)
+    let is = ap orderReply (sym (ap asComparison e) ∙ c .compare .ensures) in
+    (ap answerOf is, ap (λ (reply : Reply). valueOf reply before) is)
 
 compare-requires : tie.Need-compare-requires
 compare-requires c κs = search needs
