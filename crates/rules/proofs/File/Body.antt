@@ -165,7 +165,7 @@ module _ (n : ℕ) (p : Pile) (fits : Fits n p) (b : List ℕ) (at : ℕ) (writt
       earned draw i l = cell (suc i) 0 _ (suc-le-suc l) (omega arith) refl (fits .earned draw i l)
       earned tip i l = cell (suc i) 1 _ (suc-le-suc l) (omega arith) refl (fits .earned tip i l)
 
-row-cong : (n : ℕ) (f g : Side → ℕ → ℕ) → ((s : Side) (j : ℕ) → j < n → f s j ≡ g s j) → {x x′ y y′ : ℕ} → x ≡ x′ → y ≡ y′
+pub row-cong : (n : ℕ) (f g : Side → ℕ → ℕ) → ((s : Side) (j : ℕ) → j < n → f s j ≡ g s j) → {x x′ y y′ : ℕ} → x ≡ x′ → y ≡ y′
     → rowOf n x y f ≡ rowOf n x′ y′ g
 unfolding rowOf
 row-cong n f g h e d =

@@ -1,8 +1,7 @@
 -- Two rows that stand in bytes: where they have one length of a row they are compared number by number, and elsewhere refused.
 -- Assumes nothing.
 use Prim.Native.Nat.{ℕ}
-use native.Mathlib.Nat.{le-refl}
-use mathlib.Core.Path.{_≡_, refl, ap, ap₂, _∙_}
+use mathlib.Core.Path.{_≡_, refl, ap, _∙_}
 use mathlib.Core.Bool.{Bool, true, false, cond, not, true≢false}
 use mathlib.Core.List.{List}
 use lib.ListN.{length}
@@ -10,8 +9,7 @@ use borrow.Author.Tests.{eq-eqb, ne-eqb}
 use Rattle.rules.specs.Loops.{_and_}
 use Rattle.rules.specs.Rows.{atLeast, Comparison, bothAlike, refused, rowOrder, isAlike, isCopyLater, isSplit, numbersOf, places, isRowLength, compared, handedOn, laterRow, laterOf}
 use Rattle.rules.proofs.Loops.Logic.{and-right-fails}
-use Rattle.rules.proofs.Take.Order.{at-least-all}
-use Rattle.rules.proofs.Take.RowOrder.{orderBy, row-order}
+use Rattle.rules.proofs.Take.RowOrder.{orderBy, row-order, itself-alike}
 
 module _ (a b : List ℕ) where
   -- is each of them nowhere below the other
@@ -64,9 +62,7 @@ module _ (a b : List ℕ) where
 
 module _ (a : List ℕ) (row : isRowLength (length a) ≡ true) where
   pub itself : compared a a ≡ bothAlike
-  itself =
-      let least = at-least-all (places a) (numbersOf a) (numbersOf a) (λ c l. le-refl _) in
-      by-tests a a row refl ∙ ap₂ orderBy least least
+  itself = compared-rows a a row refl ∙ itself-alike (places a) (numbersOf a)
 
   -- a copy that is taken again adds nothing
   pub later-row-same : laterRow a a ≡ a

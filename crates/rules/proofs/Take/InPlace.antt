@@ -195,21 +195,40 @@ module _ (own copy : List ℕ) (f : BookFacts own) (g : BookFacts copy) (same-n 
         ∙ ap₂ (λ (m : ℕ) (r : List ℕ). part 0 m own ++ r) (sym (ap (λ (x : ℕ). frontLength p + x) (zero-mul (bodyLength n)) ∙ add-zero (frontLength p)))
         (flat-flat p (suc n) piece ∙ flat-cong p (λ k k<p. flat-cong (suc n) (λ r l. piece-taken k r k<p l)))
 
+-- what 30 compares, taken apart
+pub record OneBook (own copy : List ℕ) : Type 0 where
+  pub same-n : desks own ≡ desks copy
+  pub same-p : piles own ≡ piles copy
+  pub numbers : (k : ℕ) → k < piles own → pileNumber own k ≡ pileNumber copy k
+  pub openings : (k : ℕ) → k < piles own → sameOpening (desks own) (pileOf own k) (pileOf copy k) ≡ true
+
+pub one-book-facts : (own copy : List ℕ) → sameBook own copy ≡ true → OneBook own copy
+unfolding sameBook
+one-book-facts own copy e =
+    let pile = every-at (piles own) _ (and-right _ _ (and-right _ _ e)) in
+    record {
+      same-n = eqb-true _ _ (and-left _ _ e);
+      same-p = eqb-true _ _ (and-left _ _ (and-right _ _ e));
+      numbers = λ k l. eqb-true _ _ (and-left _ _ (pile k l));
+      openings = λ k l. and-right _ _ (pile k l);
+    }
+
+-- a copy without a refusal of its own is readable
+pub copy-done : (answer : ℕ) → ofCopy answer ≡ 0 → answer ≡ 0
+copy-done zero e = refl
+copy-done (suc answer) e = absurd (omega arith)
+
 -- what an accepted take tells, and the book that it leaves
 module _ (d : ℕ) (own copy : List ℕ) (accepted : takeAnswer d own copy ≡ 0) where
-  own-readable : bookAnswer own ≡ 0
+  pub own-readable : bookAnswer own ≡ 0
   unfolding takeAnswer
   own-readable = orElse-first _ _ accepted
 
-  copy-readable : bookAnswer copy ≡ 0
+  pub copy-readable : bookAnswer copy ≡ 0
   unfolding takeAnswer
-  copy-readable = of-copy _ (orElse-first _ _ (orElse-rest _ _ accepted))
-    where
-      of-copy : (answer : ℕ) → ofCopy answer ≡ 0 → answer ≡ 0
-      of-copy zero e = refl
-      of-copy (suc answer) e = absurd (omega arith)
+  copy-readable = copy-done _ (orElse-first _ _ (orElse-rest _ _ accepted))
 
-  one-book : sameBook own copy ≡ true
+  pub one-book : sameBook own copy ≡ true
   unfolding takeAnswer
   one-book = when-not-done _ _ (orElse-first _ _ (orElse-rest _ _ (orElse-rest _ _ (orElse-rest _ _ accepted))))
 
@@ -219,12 +238,10 @@ module _ (d : ℕ) (own copy : List ℕ) (accepted : takeAnswer d own copy ≡ 0
       first-at (desks own) _ (first-at (piles own) _ (orElse-rest _ _ (orElse-rest _ _ (orElse-rest _ _ (orElse-rest _ _ accepted)))) k k<p) i i<n
 
   pub same-desks : desks own ≡ desks copy
-  unfolding sameBook
-  same-desks = eqb-true _ _ (and-left _ _ one-book)
+  same-desks = one-book-facts own copy one-book .same-n
 
   pub same-count : piles own ≡ piles copy
-  unfolding sameBook
-  same-count = eqb-true _ _ (and-left _ _ (and-right _ _ one-book))
+  same-count = one-book-facts own copy one-book .same-p
 
   pub own-facts : BookFacts own
   own-facts = book-facts own own-readable
@@ -233,10 +250,7 @@ module _ (d : ℕ) (own copy : List ℕ) (accepted : takeAnswer d own copy ≡ 0
   copy-facts = book-facts copy copy-readable
 
   pub openings-alike : (k : ℕ) → k < piles own → isAlike (compared (rowPart own k 0) (rowPart copy k 0)) ≡ true
-  unfolding sameBook
-  openings-alike k k<p =
-      sym (openings-test own copy own-facts copy-facts same-desks same-count k k<p)
-      ∙ and-right _ _ (every-at (piles own) _ (and-right _ _ (and-right _ _ one-book)) k k<p)
+  openings-alike k k<p = sym (openings-test own copy own-facts copy-facts same-desks same-count k k<p) ∙ one-book-facts own copy one-book .openings k k<p
 
   pub no-row-split : (k i : ℕ) → k < piles own → i < desks own → isSplit (compared (rowPart own k (suc i)) (rowPart copy k (suc i))) ≡ false
   unfolding rowAnswer

@@ -56,7 +56,7 @@ module _ (n p : ℕ) (numbers : ℕ → ℕ) (frame : Frame n p numbers) (P Q R 
       same-opening n _ _ (a .floor ∙ merged k l .floor ∙ sym (b .floor)) (a .top ∙ merged k l .top ∙ sym (b .top))
       (λ s i m. a .share s i m ∙ merged k l .share s i m ∙ sym (b .share s i m))
 
-  same-book : sameBook own copy ≡ true
+  pub same-book : sameBook own copy ≡ true
   unfolding sameBook bookBytes
   same-book =
       and-both (eq-eqb n n refl)
@@ -103,7 +103,7 @@ module _ (n p : ℕ) (numbers : ℕ → ℕ) (frame : Frame n p numbers) (P Q R 
       (λ h. merge-copy n i (frame .sizes .desks-least) (frame .sizes .desks-most) i<n (P k) (Q k) (fitsP k k<p) (fitsQ k k<p) (h .0) ∙ ap encode (sym (h .1)))
       (merged k k<p .desk i i<n)
 
-  taken-book : taken own copy ≡ bookBytes n p numbers R
+  pub taken-book : taken own copy ≡ bookBytes n p numbers R
   unfolding taken bookBytes bodyBytes
   taken-book =
       ap₂ _++_ (front-part n p numbers P) (flat-cong p (λ k k<p. flat-cong (suc n) (λ r r<n. taken-row k r k<p r<n)))

@@ -1,7 +1,7 @@
--- Later is a strict order.
+-- At least is a preorder, and later a strict order.
 -- Assumes nothing.
 use Prim.Native.Nat.{ℕ, _≤_, _<_}
-use native.Mathlib.Nat.{le-trans, lt-of-le-of-lt}
+use native.Mathlib.Nat.{le-refl, le-trans, lt-of-le-of-lt}
 use native.Mathlib.Numerals.{lt-of-le-of-ne}
 use native.Mathlib.Omega.{arith}
 use mathlib.Core.Path.{_≡_, ap, sym}
@@ -21,6 +21,13 @@ module _ (m : ℕ) where
   pub at-least-all : (f g : ℕ → ℕ) → ((c : ℕ) → c < m → g c ≤ f c) → atLeast m f g ≡ true
   unfolding atLeast
   at-least-all f g h = every-all m (λ c l. le-leb _ _ (h c l))
+
+  -- at least is a preorder: reflexive and transitive
+  pub at-least-itself : (f : ℕ → ℕ) → atLeast m f f ≡ true
+  at-least-itself f = at-least-all f f (λ c l. le-refl (f c))
+
+  pub at-least-transitive : (f g h : ℕ → ℕ) → atLeast m f g ≡ true → atLeast m g h ≡ true → atLeast m f h ≡ true
+  at-least-transitive f g h e d = at-least-all f h (λ c l. le-trans (at-least-at g h d c l) (at-least-at f g e c l))
 
   pub alike-at : (f g : ℕ → ℕ) → alike m f g ≡ true → (c : ℕ) → c < m → f c ≡ g c
   unfolding alike

@@ -1,10 +1,10 @@
 -- What comparing two rows tells follows from two tests: is the first at least the second at every place, and the second the first.
 -- Assumes nothing.
 use Prim.Native.Nat.{ℕ, _+_, _≤_, _<_}
-use native.Mathlib.Nat.{le-refl, le-of-eq, le-antisymm}
+use native.Mathlib.Nat.{le-of-eq, le-antisymm}
 use native.Mathlib.Numerals.{add-one}
 use native.Mathlib.Omega.{arith}
-use mathlib.Core.Path.{_≡_, refl, ap, sym, _∙_}
+use mathlib.Core.Path.{_≡_, refl, ap, ap₂, sym, _∙_}
 use mathlib.Core.Bool.{Bool, true, false, cond, not, true≢false}
 use lib.Dec.{leb}
 use borrow.Author.Tests.{le-leb, lt-leb}
@@ -12,7 +12,8 @@ use Rattle.rules.specs.Loops.{_and_, every}
 use Rattle.rules.specs.Rows.{atLeast, alike, later, Comparison, bothAlike, mineLater, copyLater, bothSplit, rowOrder, isAlike, isCopyLater, isSplit}
 use Rattle.rules.proofs.Loops.Logic as logic
 use Rattle.rules.proofs.Loops.Logic.{and-left, and-right, and-both, and-true, and-right-fails}
-use Rattle.rules.proofs.Take.Order.{at-least-at, at-least-all, alike-at, alike-all}
+use Rattle.rules.proofs.Loops.Every.{every-cong}
+use Rattle.rules.proofs.Take.Order.{at-least-at, at-least-all, at-least-itself, alike-at, alike-all}
 
 -- In the product order: rows at least each other are alike; one that is so alone is later; with neither so they are split, a fork.
 abbrev pub orderBy : Bool → Bool → Comparison
@@ -69,14 +70,33 @@ module _ (m : ℕ) (f g : ℕ → ℕ) where
   pub latest-bound : isSplit (rowOrder m f g) ≡ false → LeastAbove (cond (isCopyLater (rowOrder m f g)) g f)
   latest-bound = rw row-order (go (atLeast m f g) (atLeast m g f) refl refl)
     where
-      itself : (f : ℕ → ℕ) → atLeast m f f ≡ true
-      itself f = at-least-all m f f (λ c l. le-refl (f c))
-
       first : atLeast m f g ≡ true → LeastAbove f
-      first e = record { mine = itself f; copy = e; least = λ x a b. a }
+      first e = record { mine = at-least-itself m f; copy = e; least = λ x a b. a }
 
       go : (x y : Bool) → atLeast m f g ≡ x → atLeast m g f ≡ y → isSplit (orderBy x y) ≡ false → LeastAbove (cond (isCopyLater (orderBy x y)) g f)
       go true true e d s = first e
       go true false e d s = first e
-      go false true e d s = record { mine = d; copy = itself g; least = λ x a b. b }
+      go false true e d s = record { mine = d; copy = at-least-itself m g; least = λ x a b. b }
       go false false e d s = absurd (true≢false s)
+
+-- a row beside itself
+pub itself-alike : (m : ℕ) (f : ℕ → ℕ) → rowOrder m f f ≡ bothAlike
+itself-alike m f = row-order m f f ∙ ap₂ orderBy (at-least-itself m f) (at-least-itself m f)
+
+-- with the two exchanged they are split just the same
+pub split-exchanged : (m : ℕ) (f g : ℕ → ℕ) → isSplit (rowOrder m f g) ≡ isSplit (rowOrder m g f)
+split-exchanged m f g = ap isSplit (row-order m f g) ∙ go (atLeast m f g) (atLeast m g f) ∙ sym (ap isSplit (row-order m g f))
+  where
+    go : (x y : Bool) → isSplit (orderBy x y) ≡ isSplit (orderBy y x)
+    go true true = refl
+    go true false = refl
+    go false true = refl
+    go false false = refl
+
+-- the numbers below m decide
+pub row-order-cong : (m : ℕ) {f g f′ g′ : ℕ → ℕ} → ((c : ℕ) → c < m → f c ≡ f′ c) → ((c : ℕ) → c < m → g c ≡ g′ c) → rowOrder m f g ≡ rowOrder m f′ g′
+unfolding atLeast
+row-order-cong m h j =
+    row-order m _ _
+    ∙ ap₂ orderBy (every-cong m (λ c l. ap₂ leb (j c l) (h c l))) (every-cong m (λ c l. ap₂ leb (h c l) (j c l)))
+    ∙ sym (row-order m _ _)

@@ -1,0 +1,95 @@
+-- The order of relays on bytes: an accepted take is the join, and readable files that meet neither 30 nor 31 have its laws.
+-- Assumes nothing.
+use Prim.Native.Nat.{ℕ, suc, _<_}
+use mathlib.Core.Path.{_≡_, refl, ap, ap₂, sym, subst, _∙_}
+use mathlib.Core.Logic.{_⊎_, inl, inr, ⊎-elim}
+use mathlib.Core.Bool.{Bool, true, false, not}
+use mathlib.Core.List.{List}
+use lib.Dec.{eqb}
+use borrow.Author.Tests.{lt-ltb}
+use Rattle.rules.specs.Loops.{_and_}
+use Rattle.rules.specs.Refusals.{_when_, _orElse_, first}
+use Rattle.rules.specs.Layout.{desks, piles, pileNumber}
+use Rattle.rules.specs.Rows.{isCopyLater, isSplit, compared}
+use Rattle.rules.specs.Book.{bookAnswer}
+use Rattle.rules.specs.Take.{rowPart, ofCopy, sameBook, rowAnswer, takeAnswer, taken, afterTake}
+use Rattle.rules.proofs.Loops.Refusals.{not-met, none-met, first-none, orElse-passes, when-accepted}
+use Rattle.rules.proofs.Bytes.Numbers.{Octets}
+use Rattle.rules.proofs.File.LawfulBook.{Frame}
+use Rattle.rules.proofs.Take.InPlace as take
+use Rattle.relays.specs.Join.{Book, join}
+use Rattle.relays.specs.Laws.{JoinLaws, Related}
+use Rattle.relays.specs.Files.{bookOf, file, joinedFile, joinAnswer, FileJoins, FileLaws}
+use Rattle.relays.proofs.Join.{related-exchanged, related-itself, related-join, order-of-relays}
+use Rattle.relays.proofs.Written.{file-readable, same-books, taken-join, join-accepted}
+use Rattle.relays.proofs.Read.{one-book, frame, first-file, second-file, related}
+
+-- a take that is accepted meets nothing that joining the two meets
+pub take-meets-none : (d : ℕ) (own copy : List ℕ) → takeAnswer d own copy ≡ 0 → joinAnswer own copy ≡ 0
+unfolding joinAnswer
+take-meets-none d own copy e =
+    none-met (take.own-readable d own copy e)
+    (none-met (ap ofCopy (take.copy-readable d own copy e))
+    (none-met (not-met 30 (ap not (take.one-book d own copy e)))
+    (first-none (piles own) (λ k l. first-none (desks own) (λ i m. not-met 31 (take.no-row-split d own copy e k i l m))))))
+
+-- 6/12: the take of document 01 is this join where it is accepted
+pub take-is-join : (d : ℕ) (own copy : List ℕ) → Octets own → Octets copy → takeAnswer d own copy ≡ 0 → afterTake d own copy ≡ joinedFile own copy
+unfolding afterTake joinedFile
+take-is-join d own copy o o′ e =
+    let met = take-meets-none d own copy e in
+    when-accepted _ _ _ e
+    ∙ sym (ap₂ taken (first-file own copy met o o′) (second-file own copy met o o′))
+    ∙ taken-join (desks own) (piles own) (pileNumber own) (frame own copy met o o′) (bookOf own) (bookOf copy) (related own copy met o o′)
+
+-- the laws for files of related books
+module _ (n p : ℕ) (pileNumbers : ℕ → ℕ) (frame : Frame n p pileNumbers) where
+  abbrev at : Book → List ℕ
+  at a = file n p pileNumbers a
+
+  joined : (a b : Book) → Related n p a b → taken (at a) (at b) ≡ at (join n p a b)
+  joined a b ab = taken-join n p pileNumbers frame a b ab
+
+  written-joins : (a b : Book) → Related n p a b → FileJoins (at a) (at b)
+  written-joins a b ab =
+      let back = related-join n p ab (related-exchanged n p ab) (related-itself n p (ab .first)) in
+      record {
+        met = join-accepted n p pileNumbers frame a b ab;
+        readable = subst (λ (x : List ℕ). bookAnswer x ≡ 0) (sym (joined a b ab)) (file-readable n p pileNumbers frame (join n p a b) (back .first));
+        opening = subst (λ (x : List ℕ). sameBook x (at a) ≡ true) (sym (joined a b ab)) (same-books n p pileNumbers frame (join n p a b) a back);
+      }
+
+  written-laws : (a b c : Book) → Related n p a b → Related n p b c → Related n p a c → FileLaws (at a) (at b) (at c)
+  written-laws a b c ab bc ac =
+      let laws = order-of-relays n p a b c ab bc ac in
+      let ba = related-exchanged n p ab in
+      let aa = related-itself n p (ab .first) in
+      let ab-c = related-join n p ab bc ac in
+      let a-bc = related-exchanged n p (related-join n p bc (related-exchanged n p ac) ba) in
+      record {
+        commutative = joined a b ab ∙ ap at (laws .commutative) ∙ sym (joined b a ba);
+        associative =
+            ap (λ (x : List ℕ). taken x (at c)) (joined a b ab) ∙ joined (join n p a b) c ab-c
+            ∙ ap at (laws .associative)
+            ∙ sym (ap (taken (at a)) (joined b c bc) ∙ joined a (join n p b c) a-bc);
+        idempotent = joined a a aa ∙ ap at (laws .idempotent);
+        first-second = written-joins a b ab;
+        second-first = written-joins b a ba;
+        second-third = written-joins b c bc;
+        first-itself = written-joins a a aa;
+        two-with-third = subst (λ (x : List ℕ). FileJoins x (at c)) (sym (joined a b ab)) (written-joins (join n p a b) c ab-c);
+        first-with-two = subst (FileJoins (at a)) (sym (joined b c bc)) (written-joins a (join n p b c) a-bc);
+      }
+
+-- 6/12 on bytes: the order of relays is of no consequence for readable books whose takes of one another meet neither 30 nor 31
+pub file-laws : (a b c : List ℕ) → Octets a → Octets b → Octets c → joinAnswer a b ≡ 0 → joinAnswer b c ≡ 0 → joinAnswer a c ≡ 0 → FileLaws a b c
+file-laws a b c oa ob oc ab bc ac =
+    let sizes = one-book a b ab in
+    let b-c : Related (desks a) (piles a) (bookOf b) (bookOf c)
+    = subst (λ (n : ℕ). Related n (piles a) (bookOf b) (bookOf c)) (sym (sizes .same-n))
+    (subst (λ (p : ℕ). Related (desks b) p (bookOf b) (bookOf c)) (sym (sizes .same-p)) (related b c bc ob oc)) in
+    let at = file (desks a) (piles a) (pileNumber a) in
+    subst (FileLaws a b) (second-file a c ac oa oc)
+    (subst (λ (x : List ℕ). FileLaws a x (at (bookOf c))) (second-file a b ab oa ob)
+    (subst (λ (x : List ℕ). FileLaws x (at (bookOf b)) (at (bookOf c))) (first-file a b ab oa ob)
+    (written-laws (desks a) (piles a) (pileNumber a) (frame a b ab oa ob) (bookOf a) (bookOf b) (bookOf c) (related a b ab oa ob) b-c (related a c ac oa oc))))

@@ -1,0 +1,64 @@
+-- The order of relays (6/12): what is asked of books, and the laws of their join, for any number of desks and piles.
+-- Assumes nothing.
+use Prim.Native.Nat.{ℕ, _<_}
+use mathlib.Core.Path.{_≡_}
+use mathlib.Core.Bool.{true, false}
+use mathlib.Core.List.{List}
+use lib.ListN.{length}
+use Rattle.rules.specs.Pile.{pileAnswer}
+use Rattle.rules.specs.Layout.{columns}
+use Rattle.rules.specs.Rows.{atLeast, isSplit}
+use Rattle.relays.specs.Join.{Body, Book, rowIn, bodyIn, row, numbers, pileIn, order, join}
+
+-- An opening and n rows, each of 2(n + 1) numbers, that pass document 01's checks of a body: 5, 6 and 7.
+pub record LawfulBody (n : ℕ) (x : Body) : Type 0 where
+  pub opening : length (x .opening) ≡ columns n
+  pub desks : length (x .rows) ≡ n
+  pub rows : (i : ℕ) → i < n → length (rowIn x i) ≡ columns n
+  pub passes : pileAnswer n (pileIn n x) ≡ 0
+
+pub record LawfulBook (n p : ℕ) (a : Book) : Type 0 where
+  pub piles : length a ≡ p
+  pub bodies : (k : ℕ) → k < p → LawfulBody n (bodyIn a k)
+
+abbrev pub OneOpening : ℕ → Book → Book → Type 0
+OneOpening p a b = (k : ℕ) → k < p → bodyIn a k .opening ≡ bodyIn b k .opening
+
+-- no desk's rows are split, on any pile
+abbrev pub NoSplit : ℕ → ℕ → Book → Book → Type 0
+NoSplit n p a b = (k i : ℕ) → k < p → i < n → isSplit (order n (row a k i) (row b k i)) ≡ false
+
+-- The order of books of one opening: every tally of the first is at least that of the second.
+abbrev pub Above : ℕ → ℕ → Book → Book → Type 0
+Above n p a b = (k i : ℕ) → k < p → i < n → atLeast (columns n) (numbers (row a k i)) (numbers (row b k i)) ≡ true
+
+-- One join: it meets no split, what comes out is lawful and of the same opening, and it is the least upper bound of the two.
+pub record Joins (n p : ℕ) (a b : Book) : Type 0 where
+  pub no-split : NoSplit n p a b
+  pub lawful : LawfulBook n p (join n p a b)
+  pub opening : OneOpening p (join n p a b) a
+  pub above-first : Above n p (join n p a b) a
+  pub above-second : Above n p (join n p a b) b
+  pub least : (x : Book) → Above n p x a → Above n p x b → Above n p x (join n p a b)
+
+-- The laws, and each join that they speak of.
+pub record JoinLaws (n p : ℕ) (a b c : Book) : Type 0 where
+  pub commutative : join n p a b ≡ join n p b a
+  pub associative : join n p (join n p a b) c ≡ join n p a (join n p b c)
+  pub idempotent : join n p a a ≡ a
+  pub first-second : Joins n p a b
+  pub second-first : Joins n p b a
+  pub second-third : Joins n p b c
+  pub first-itself : Joins n p a a
+  pub two-with-third : Joins n p (join n p a b) c
+  pub first-with-two : Joins n p a (join n p b c)
+
+-- lawful books of one opening with no split between them
+pub record Related (n p : ℕ) (a b : Book) : Type 0 where
+  pub first : LawfulBook n p a
+  pub second : LawfulBook n p b
+  pub opening : OneOpening p a b
+  pub no-split : NoSplit n p a b
+
+abbrev pub OrderOfRelays : Type 0
+OrderOfRelays = (n p : ℕ) (a b c : Book) → Related n p a b → Related n p b c → Related n p a c → JoinLaws n p a b c
