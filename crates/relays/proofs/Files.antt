@@ -13,16 +13,16 @@ use Rattle.rules.specs.Layout.{desks, piles, pileNumber}
 use Rattle.rules.specs.Rows.{isCopyLater, isSplit, compared}
 use Rattle.rules.specs.Book.{bookAnswer}
 use Rattle.rules.specs.Take.{rowPart, ofCopy, sameBook, rowAnswer, takeAnswer, taken, afterTake}
-use Rattle.rules.proofs.Loops.Refusals.{not-met, none-met, first-none, orElse-passes, when-accepted}
+use Rattle.rules.proofs.Loops.Refusals.{not-met, none-met, first-none, orElse-passes, when-either, orElse-either, first-either, when-accepted}
 use Rattle.rules.proofs.Bytes.Numbers.{Octets}
 use Rattle.rules.proofs.File.LawfulBook.{Frame}
 use Rattle.rules.proofs.Take.InPlace as take
 use Rattle.relays.specs.Join.{Book, join}
 use Rattle.relays.specs.Laws.{JoinLaws, Related}
 use Rattle.relays.specs.Files.{bookOf, file, joinedFile, joinAnswer, FileJoins, FileLaws}
-use Rattle.relays.proofs.Join.{related-exchanged, related-itself, related-join, order-of-relays}
+use Rattle.relays.proofs.Join.{commutative, associative, idempotent, related-exchanged, related-itself, related-join}
 use Rattle.relays.proofs.Written.{file-readable, same-books, taken-join, join-accepted}
-use Rattle.relays.proofs.Read.{one-book, frame, first-file, second-file, related}
+use Rattle.relays.proofs.Read.{first-readable, second-readable, same-book, rows-whole, frame, first-file, second-file, related, under-first, as-files}
 
 -- a take that is accepted meets nothing that joining the two meets
 pub take-meets-none : (d : ℕ) (own copy : List ℕ) → takeAnswer d own copy ≡ 0 → joinAnswer own copy ≡ 0
@@ -32,6 +32,21 @@ take-meets-none d own copy e =
     (none-met (ap ofCopy (take.copy-readable d own copy e))
     (none-met (not-met 30 (ap not (take.one-book d own copy e)))
     (first-none (piles own) (λ k l. first-none (desks own) (λ i m. not-met 31 (take.no-row-split d own copy e k i l m))))))
+
+-- and where joining two files meets nothing, a take of one by the other meets neither 30 nor 31, at any desk
+pub join-meets-none : (d : ℕ) (own copy : List ℕ) → d < desks own → joinAnswer own copy ≡ 0 → (takeAnswer d own copy ≡ 0) ⊎ (takeAnswer d own copy ≡ 32)
+unfolding takeAnswer rowAnswer
+join-meets-none d own copy known met =
+    subst DoneOr32
+    (sym (orElse-passes (first-readable own copy met) _
+    ∙ orElse-passes (ap ofCopy (second-readable own copy met)) _
+    ∙ orElse-passes (not-met 11 (ap not (lt-ltb d (desks own) known))) _
+    ∙ orElse-passes (not-met 30 (ap not (same-book own copy met))) _))
+    (first-either DoneOr32 (piles own) (inl refl) (λ k l. first-either DoneOr32 (desks own) (inl refl) (λ i m.
+    orElse-either DoneOr32 _ _ (inl (not-met 31 (rows-whole own copy met k i l m))) (when-either DoneOr32 32 (inr refl) (inl refl) _))))
+  where
+    DoneOr32 : ℕ → Type 0
+    DoneOr32 answer = (answer ≡ 0) ⊎ (answer ≡ 32)
 
 -- 6/12: the take of document 01 is this join where it is accepted
 pub take-is-join : (d : ℕ) (own copy : List ℕ) → Octets own → Octets copy → takeAnswer d own copy ≡ 0 → afterTake d own copy ≡ joinedFile own copy
@@ -61,18 +76,17 @@ module _ (n p : ℕ) (pileNumbers : ℕ → ℕ) (frame : Frame n p pileNumbers)
 
   written-laws : (a b c : Book) → Related n p a b → Related n p b c → Related n p a c → FileLaws (at a) (at b) (at c)
   written-laws a b c ab bc ac =
-      let laws = order-of-relays n p a b c ab bc ac in
       let ba = related-exchanged n p ab in
       let aa = related-itself n p (ab .first) in
       let ab-c = related-join n p ab bc ac in
       let a-bc = related-exchanged n p (related-join n p bc (related-exchanged n p ac) ba) in
       record {
-        commutative = joined a b ab ∙ ap at (laws .commutative) ∙ sym (joined b a ba);
+        commutative = joined a b ab ∙ ap at (commutative n p a b ab) ∙ sym (joined b a ba);
         associative =
             ap (λ (x : List ℕ). taken x (at c)) (joined a b ab) ∙ joined (join n p a b) c ab-c
-            ∙ ap at (laws .associative)
+            ∙ ap at (associative n p a b c ab bc ac)
             ∙ sym (ap (taken (at a)) (joined b c bc) ∙ joined a (join n p b c) a-bc);
-        idempotent = joined a a aa ∙ ap at (laws .idempotent);
+        idempotent = joined a a aa ∙ ap at (idempotent n p a (ab .first));
         first-second = written-joins a b ab;
         second-first = written-joins b a ba;
         second-third = written-joins b c bc;
@@ -84,12 +98,6 @@ module _ (n p : ℕ) (pileNumbers : ℕ → ℕ) (frame : Frame n p pileNumbers)
 -- 6/12 on bytes: the order of relays is of no consequence for readable books whose takes of one another meet neither 30 nor 31
 pub file-laws : (a b c : List ℕ) → Octets a → Octets b → Octets c → joinAnswer a b ≡ 0 → joinAnswer b c ≡ 0 → joinAnswer a c ≡ 0 → FileLaws a b c
 file-laws a b c oa ob oc ab bc ac =
-    let sizes = one-book a b ab in
-    let b-c : Related (desks a) (piles a) (bookOf b) (bookOf c)
-    = subst (λ (n : ℕ). Related n (piles a) (bookOf b) (bookOf c)) (sym (sizes .same-n))
-    (subst (λ (p : ℕ). Related (desks b) p (bookOf b) (bookOf c)) (sym (sizes .same-p)) (related b c bc ob oc)) in
-    let at = file (desks a) (piles a) (pileNumber a) in
-    subst (FileLaws a b) (second-file a c ac oa oc)
-    (subst (λ (x : List ℕ). FileLaws a x (at (bookOf c))) (second-file a b ab oa ob)
-    (subst (λ (x : List ℕ). FileLaws x (at (bookOf b)) (at (bookOf c))) (first-file a b ab oa ob)
-    (written-laws (desks a) (piles a) (pileNumber a) (frame a b ab oa ob) (bookOf a) (bookOf b) (bookOf c) (related a b ab oa ob) b-c (related a c ac oa oc))))
+    as-files FileLaws a b c oa ob oc ab ac
+    (written-laws (desks a) (piles a) (pileNumber a) (frame a b ab oa ob) (bookOf a) (bookOf b) (bookOf c) (related a b ab oa ob)
+    (under-first (λ n p. Related n p (bookOf b) (bookOf c)) a b ab (related b c bc ob oc)) (related a c ac oa oc))

@@ -40,12 +40,12 @@ module _ (n p : ℕ) where
   same-join a b c d opening rows =
       list-cong p (λ k l. ap₂ {C = Body} (λ (o : List ℕ) (r : List (List ℕ)). record { opening = o; rows = r }) (opening k l) (list-cong n (λ i m. rows k i l m)))
 
-  commutative : (a b : Book) → Related n p a b → join n p a b ≡ join n p b a
+  pub commutative : (a b : Book) → Related n p a b → join n p a b ≡ join n p b a
   commutative a b ab =
       same-join a b b a (ab .opening)
       (λ k i l m. row-commutative n _ _ (ab .first .bodies k l .rows i m) (ab .second .bodies k l .rows i m) (ab .no-split k i l m))
 
-  associative : (a b c : Book) → Related n p a b → Related n p b c → Related n p a c → join n p (join n p a b) c ≡ join n p a (join n p b c)
+  pub associative : (a b c : Book) → Related n p a b → Related n p b c → Related n p a c → join n p (join n p a b) c ≡ join n p a (join n p b c)
   associative a b c ab bc ac =
       same-join (join n p a b) c a (join n p b c) (opening-of-join a b)
       (λ k i l m. ap (λ (r : List ℕ). joinRow n r (row c k i)) (row-of-join a b k i l m)
@@ -53,7 +53,7 @@ module _ (n p : ℕ) where
       (ab .no-split k i l m) (bc .no-split k i l m) (ac .no-split k i l m)
       ∙ ap (joinRow n (row a k i)) (sym (row-of-join b c k i l m)))
 
-  idempotent : (a : Book) → LawfulBook n p a → join n p a a ≡ a
+  pub idempotent : (a : Book) → LawfulBook n p a → join n p a a ≡ a
   unfolding join joinBody
   idempotent a lawful =
       list-cong p (λ k l. ap {B = Body} (λ (r : List (List ℕ)). record { opening = bodyIn a k .opening; rows = r })

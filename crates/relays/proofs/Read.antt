@@ -105,11 +105,14 @@ module _ (a b : List ℕ) (met : joinAnswer a b ≡ 0) where
   unfolding joinAnswer
   second-readable = copy-done _ (orElse-first _ _ (orElse-rest _ _ met))
 
-  pub one-book : OneBook a b
+  pub same-book : sameBook a b ≡ true
   unfolding joinAnswer
-  one-book = one-book-facts a b (when-not-done _ _ (orElse-first _ _ (orElse-rest _ _ (orElse-rest _ _ met))))
+  same-book = when-not-done _ _ (orElse-first _ _ (orElse-rest _ _ (orElse-rest _ _ met)))
 
-  rows-whole : (k i : ℕ) → k < piles a → i < desks a → isSplit (compared (rowPart a k (suc i)) (rowPart b k (suc i))) ≡ false
+  pub one-book : OneBook a b
+  one-book = one-book-facts a b same-book
+
+  pub rows-whole : (k i : ℕ) → k < piles a → i < desks a → isSplit (compared (rowPart a k (suc i)) (rowPart b k (suc i))) ≡ false
   unfolding joinAnswer
   rows-whole k i l m =
       when-done _ _ (first-at (desks a) _ (first-at (piles a) _ (orElse-rest _ _ (orElse-rest _ _ (orElse-rest _ _ met))) k l) i m)
@@ -154,3 +157,16 @@ module _ (a b : List ℕ) (met : joinAnswer a b ≡ 0) where
               ∙ ap₂ (λ (x y : List ℕ). compared (rowPart x k (suc i)) (rowPart y k (suc i))) first-file second-file)
               ∙ rows-whole k i l m;
         }
+
+-- with a third file: what is said of the sizes of the second holds of those of the first, and the three are files of the books that they hold
+pub under-first : (P : ℕ → ℕ → Type 0) (a b : List ℕ) → joinAnswer a b ≡ 0 → P (desks b) (piles b) → P (desks a) (piles a)
+under-first P a b ab held =
+    subst (λ (n : ℕ). P n (piles a)) (sym (one-book a b ab .same-n)) (subst (P (desks b)) (sym (one-book a b ab .same-p)) held)
+
+pub as-files : (P : List ℕ → List ℕ → List ℕ → Type 0) (a b c : List ℕ) → Octets a → Octets b → Octets c → joinAnswer a b ≡ 0 → joinAnswer a c ≡ 0
+    → (let at = file (desks a) (piles a) (pileNumber a) in P (at (bookOf a)) (at (bookOf b)) (at (bookOf c))) → P a b c
+as-files P a b c oa ob oc ab ac held =
+    let at = file (desks a) (piles a) (pileNumber a) in
+    subst (P a b) (second-file a c ac oa oc)
+    (subst (λ (x : List ℕ). P a x (at (bookOf c))) (second-file a b ab oa ob)
+    (subst (λ (x : List ℕ). P x (at (bookOf b)) (at (bookOf c))) (first-file a b ab oa ob) held))

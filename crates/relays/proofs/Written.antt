@@ -11,7 +11,7 @@ use Rattle.rules.specs.Pile.{Side, draw, tip, Pile}
 use Rattle.rules.specs.Layout.{columns, column, earnedColumn, rowOf, bodyRow, bookBytes}
 use Rattle.rules.specs.Rows.{atLeast, rowOrder, isSplit, numbersOf, compared}
 use Rattle.rules.specs.Book.{bookAnswer}
-use Rattle.rules.specs.Take.{rowPart, ofCopy, sameBook, taken}
+use Rattle.rules.specs.Take.{rowPart, ofCopy, sameBook, takeAnswer, taken}
 use Rattle.rules.proofs.Loops.Pieces.{getD-list}
 use Rattle.rules.proofs.Loops.Refusals.{not-met, none-met, first-none}
 use Rattle.rules.proofs.Pile.Facts.{facts}
@@ -22,7 +22,7 @@ use Rattle.rules.proofs.Take.RowOrder.{row-order-cong}
 use Rattle.rules.proofs.Take.Compared.{compared-rows}
 use Rattle.rules.proofs.Take.RowBytes as bytes
 use Rattle.rules.proofs.Take.MergeRow.{RowLe}
-use Rattle.rules.proofs.Take.Merge.{Merged, same-book, taken-book}
+use Rattle.rules.proofs.Take.Merge.{Merged, same-book, take-accepted, taken-book}
 use Rattle.relays.specs.Join.{Body, Book, bodyIn, row, numbers, cell, pileIn, order, join}
 use Rattle.relays.specs.Laws.{LawfulBook, OneOpening, Related}
 use Rattle.relays.specs.Files.{file, joinAnswer}
@@ -108,6 +108,13 @@ module _ (n p : ℕ) where
       taken-join =
           taken-book n p pileNumbers frame (pilesOf a) (pilesOf b) (pilesOf (join n p a b)) (lawful-piles a (ab .first)) (lawful-piles b (ab .second))
           (merged a b ab)
+
+      -- where the taker's own row is not behind, the take is accepted
+      pub take-done : (d : ℕ) → d < n → ((k : ℕ) → k < p → atLeast (columns n) (numbers (row a k d)) (numbers (row b k d)) ≡ true) → takeAnswer d (at a) (at b) ≡ 0
+      unfolding file
+      take-done d d<n ahead =
+          take-accepted n p pileNumbers frame (pilesOf a) (pilesOf b) (pilesOf (join n p a b)) (lawful-piles a (ab .first)) (lawful-piles b (ab .second))
+          (merged a b ab) d d<n (λ k l. row-le a b k d (ahead k l))
 
       pub join-accepted : joinAnswer (at a) (at b) ≡ 0
       unfolding joinAnswer file bookBytes

@@ -10,7 +10,7 @@ use Rattle.rules.specs.Pile.{Pile}
 use Rattle.rules.specs.Layout.{desks, piles, pileNumber, pileOf, bodyRow, bookBytes}
 use Rattle.rules.specs.Rows.{isSplit, compared}
 use Rattle.rules.specs.Book.{bookAnswer}
-use Rattle.rules.specs.Take.{rowPart, ofCopy, sameBook, taken}
+use Rattle.rules.specs.Take.{rowPart, ofCopy, sameBook, takeAnswer, taken, afterTake}
 use Rattle.relays.specs.Join.{Body, Book, bodyIn, pileIn, join}
 
 -- the book that a file holds
@@ -53,3 +53,12 @@ pub record FileLaws (a b c : List ℕ) : Type 0 where
   pub first-itself : FileJoins a a
   pub two-with-third : FileJoins (taken a b) c
   pub first-with-two : FileJoins a (taken b c)
+
+-- Relays: desk d has a, and b and c reach it. It takes them one by one in either order, or takes what desk e's book b became when c was taken into it: no take is
+-- refused, and desk d is left with the same bytes.
+pub record Relayed (d e : ℕ) (a b c : List ℕ) : Type 0 where
+  pub c-after-b : takeAnswer d (afterTake d a b) c ≡ 0
+  pub b-after-c : takeAnswer d (afterTake d a c) b ≡ 0
+  pub both-at-once : takeAnswer d a (afterTake e b c) ≡ 0
+  pub same-in-turn : afterTake d (afterTake d a b) c ≡ afterTake d (afterTake d a c) b
+  pub same-at-once : afterTake d (afterTake d a b) c ≡ afterTake d a (afterTake e b c)

@@ -93,21 +93,31 @@ unfolding first
 first-cong zero h = refl
 first-cong (suc n) h = ap₂ _orElse_ (first-cong n (λ k l. h k (le-step l))) (h n (le-refl (suc n)))
 
--- no answer is above the highest number of its lines
-pub when-most : {most : ℕ} (number : ℕ) → number ≤ most → (c : Bool) → (number when c) ≤ most
+-- what holds of 0 and of each line's number holds of the answer
+pub when-either : (P : ℕ → Type 0) (number : ℕ) → P number → P 0 → (c : Bool) → P (number when c)
 unfolding _when_
-when-most number l true = l
-when-most number l false = omega arith
+when-either P number met done true = met
+when-either P number met done false = done
+
+pub orElse-either : (P : ℕ → Type 0) (a b : ℕ) → P a → P b → P (a orElse b)
+unfolding _orElse_
+orElse-either P zero b l m = m
+orElse-either P (suc a) b l m = l
+
+pub first-either : (P : ℕ → Type 0) (n : ℕ) {f : ℕ → ℕ} → P 0 → ((k : ℕ) → k < n → P (f k)) → P (first n f)
+unfolding first
+first-either P zero done h = done
+first-either P (suc n) {f} done h = orElse-either P (first n f) (f n) (first-either P n done (λ k l. h k (le-step l))) (h n (le-refl (suc n)))
+
+-- so no answer is above the highest of them
+pub when-most : {most : ℕ} (number : ℕ) → number ≤ most → (c : Bool) → (number when c) ≤ most
+when-most {most} number l c = when-either (λ x. x ≤ most) number l (omega arith) c
 
 pub orElse-most : {most : ℕ} (a b : ℕ) → a ≤ most → b ≤ most → (a orElse b) ≤ most
-unfolding _orElse_
-orElse-most zero b l m = m
-orElse-most (suc a) b l m = l
+orElse-most {most} = orElse-either (λ x. x ≤ most)
 
 pub first-most : {most : ℕ} (n : ℕ) (f : ℕ → ℕ) → ((k : ℕ) → f k ≤ most) → first n f ≤ most
-unfolding first
-first-most zero f h = omega arith
-first-most (suc n) f h = orElse-most (first n f) (f n) (first-most n f h) (h n)
+first-most {most} n f h = first-either (λ x. x ≤ most) n (omega arith) (λ k _. h k)
 
 -- what a call leaves where it is answered 0, and where it is refused
 pub when-accepted : {A : Type 0} (answer : ℕ) (after before : A) → answer ≡ 0 → done answer after before ≡ after

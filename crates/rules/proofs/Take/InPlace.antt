@@ -35,7 +35,7 @@ use Rattle.rules.proofs.Take.Order.{alike-at, alike-all}
 use Rattle.rules.proofs.Take.RowOrder.{alike-told}
 use Rattle.rules.proofs.Take.Compared.{compared-rows, later-row}
 use Rattle.rules.proofs.Take.RowBytes.{is-row-length}
-use borrow.Author.Tests.{eqb-true, eq-eqb}
+use borrow.Author.Tests.{eqb-true, ltb-true, eq-eqb}
 
 -- two openings agree exactly where their rows are alike
 pub opening-alike : (n : ℕ) (cell cell′ : ℕ → ℕ → ℕ) → sameOpening n (view n cell) (view n cell′) ≡ alike (columns n) (cell 0) (cell′ 0)
@@ -232,7 +232,11 @@ module _ (d : ℕ) (own copy : List ℕ) (accepted : takeAnswer d own copy ≡ 0
   unfolding takeAnswer
   one-book = when-not-done _ _ (orElse-first _ _ (orElse-rest _ _ (orElse-rest _ _ (orElse-rest _ _ accepted))))
 
-  rows-pass : (k i : ℕ) → k < piles own → i < desks own → rowAnswer (eqb i d) (compared (rowPart own k (suc i)) (rowPart copy k (suc i))) ≡ 0
+  pub taker-known : d < desks own
+  unfolding takeAnswer
+  taker-known = ltb-true _ _ (when-not-done _ _ (orElse-first _ _ (orElse-rest _ _ (orElse-rest _ _ accepted))))
+
+  pub rows-pass : (k i : ℕ) → k < piles own → i < desks own → rowAnswer (eqb i d) (compared (rowPart own k (suc i)) (rowPart copy k (suc i))) ≡ 0
   unfolding takeAnswer
   rows-pass k i k<p i<n =
       first-at (desks own) _ (first-at (piles own) _ (orElse-rest _ _ (orElse-rest _ _ (orElse-rest _ _ (orElse-rest _ _ accepted)))) k k<p) i i<n

@@ -1,0 +1,88 @@
+-- The laws on three small books, computed, so that a wrong join is refused by the law that it breaks; and a table of what joins give and of what takes meet.
+-- Assumes nothing.
+use Prim.Native.Nat.{ℕ, suc}
+use mathlib.Core.Path.{_≡_, refl}
+use mathlib.Core.List.{List, [], _∷_, _++_}
+use Rattle.rules.specs.Take.{takeAnswer, afterTake}
+use Rattle.rules.proofs.Cases.Letters.{F, G}
+use Rattle.rules.proofs.Cases.Table.{Case, case, AllHold, all-hold, open-loops, open-refusals, open-numbers, open-pile, open-layout, open-rows, open-opening, open-book, open-take}
+use Rattle.relays.specs.Join.{Body, Book, joinRow, joinBody, join}
+use Rattle.relays.specs.Files.{bookOf, file, joinedFile, joinAnswer}
+
+-- two desks; floor 10, top 110, draw shares 0 and 0, tip shares 60 and 40
+abbrev pile : List ℕ → List ℕ → Body
+pile desk0 desk1 = record { opening = 10 ∷ 110 ∷ 0 ∷ 0 ∷ 60 ∷ 40 ∷ []; rows = desk0 ∷ desk1 ∷ [] }
+
+abbrev none : List ℕ
+none = 0 ∷ 0 ∷ 0 ∷ 0 ∷ 0 ∷ 0 ∷ []
+
+abbrev tipped : ℕ → List ℕ
+tipped t = t ∷ 0 ∷ 0 ∷ 0 ∷ 0 ∷ 0 ∷ []
+
+-- tipped 30, then gave 10 draw to desk 1; tipped 7, then drew 2
+abbrev gave : List ℕ
+gave = 30 ∷ 0 ∷ 0 ∷ 10 ∷ 0 ∷ 0 ∷ []
+
+abbrev drew : List ℕ
+drew = 7 ∷ 2 ∷ 0 ∷ 0 ∷ 0 ∷ 0 ∷ []
+
+-- Three books of two piles, none of which is at least another.
+abbrev a : Book
+a = pile (tipped 30) none ∷ pile (tipped 5) none ∷ []
+
+abbrev b : Book
+b = pile gave none ∷ pile none (tipped 7) ∷ []
+
+abbrev c : Book
+c = pile none (tipped 20) ∷ pile (tipped 5) drew ∷ []
+
+unfoldable open-join : Unit {0}
+unfolding joinRow joinBody join bookOf file joinedFile joinAnswer
+open-join = tt
+
+commutative : join 2 2 a b ≡ join 2 2 b a
+unfolding open-join open-loops open-rows
+commutative = refl
+
+associative : join 2 2 (join 2 2 a b) c ≡ join 2 2 a (join 2 2 b c)
+unfolding open-join open-loops open-rows
+associative = refl
+
+idempotent : join 2 2 a a ≡ a
+unfolding open-join open-loops open-rows
+idempotent = refl
+
+-- a book's numbers, one after the other
+abbrev shownRows : List (List ℕ) → List ℕ
+shownRows [] = []
+shownRows (r ∷ rs) = r ++ shownRows rs
+
+abbrev shownBook : Book → List ℕ
+shownBook [] = []
+shownBook (x ∷ xs) = x .opening ++ (shownRows (x .rows) ++ shownBook xs)
+
+-- files of one desk and three piles, of which it tipped so much and drew so much
+abbrev alone : ℕ → ℕ → Body
+alone tipped drawn = record { opening = 0 ∷ 100 ∷ 0 ∷ 100 ∷ []; rows = (tipped ∷ drawn ∷ 0 ∷ 0 ∷ []) ∷ [] }
+
+abbrev mine : List ℕ
+mine = file 1 3 suc (alone 10 0 ∷ alone 20 0 ∷ alone 20 5 ∷ [])
+
+abbrev reloaded : List ℕ
+reloaded = file 1 3 suc (alone 20 0 ∷ alone 10 0 ∷ alone 30 0 ∷ [])
+
+abbrev table : List Case
+table =
+    case "6/12: two books joined have the later row of each desk, on both piles" (shownBook (join 2 2 a b))
+    (shownBook (pile gave none ∷ pile (tipped 5) (tipped 7) ∷ []))
+    ∷ case "6/12: three books joined, in either grouping" (shownBook (join 2 2 (join 2 2 a b) c) ++ shownBook (join 2 2 a (join 2 2 b c)))
+    (shownBook (pile gave (tipped 20) ∷ pile (tipped 5) drew ∷ []) ++ shownBook (pile gave (tipped 20) ∷ pile (tipped 5) drew ∷ []))
+    ∷ case "6/12: the file of a book holds that book" (shownBook (bookOf (file 2 2 suc a)) ++ file 2 2 suc (bookOf (file 2 2 suc b))) (shownBook a ++ file 2 2 suc b)
+    ∷ case "6/12: F and G joined as files, in either order, are G, as where desk 0 takes F into G" (joinedFile F G ++ joinedFile G F) (G ++ afterTake 0 G F)
+    ∷ case "6/12: a take of either by the other meets 32 on pile 1 or 2, joining them 31 on pile 3" (takeAnswer 0 mine reloaded ∷ takeAnswer 0 reloaded mine ∷ joinAnswer mine reloaded ∷ joinAnswer reloaded mine ∷ [])
+    (32 ∷ 32 ∷ 31 ∷ 31 ∷ [])
+    ∷ []
+
+pub cases-hold : AllHold table
+unfolding open-join open-loops open-refusals open-numbers open-pile open-layout open-rows open-opening open-book open-take
+cases-hold = all-hold table refl

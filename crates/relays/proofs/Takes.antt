@@ -1,0 +1,114 @@
+-- Takes in any grouping: the join that a desk is left with is never behind in its own row, so no take is refused.
+-- Assumes nothing.
+use Prim.Native.Nat.{ℕ, suc, _<_}
+use mathlib.Core.Path.{_≡_, refl, ap, ap₂, sym, subst, _∙_}
+use mathlib.Core.Bool.{Bool, true, false, cond}
+use mathlib.Core.List.{List}
+use lib.Dec.{eqb}
+use borrow.Author.Tests.{eq-eqb}
+use Rattle.rules.specs.Loops.{_and_}
+use Rattle.rules.specs.Layout.{columns, desks, piles, pileNumber}
+use Rattle.rules.specs.Rows.{atLeast, isCopyLater, compared}
+use Rattle.rules.specs.Take.{rowPart, rowAnswer, takeAnswer, taken, afterTake}
+use Rattle.rules.proofs.Loops.Logic.{and-true}
+use Rattle.rules.proofs.Loops.Refusals.{when-done, orElse-rest, when-accepted}
+use Rattle.rules.proofs.Bytes.Numbers.{Octets}
+use Rattle.rules.proofs.File.LawfulBook.{Frame}
+use Rattle.rules.proofs.Take.Order.{at-least-transitive}
+use Rattle.rules.proofs.Take.InPlace.{taker-known, rows-pass}
+use Rattle.relays.specs.Join.{Book, row, numbers, order, joinRow, join}
+use Rattle.relays.specs.Laws.{Related}
+use Rattle.relays.specs.Files.{bookOf, file, Relayed}
+use Rattle.relays.proofs.Rows.{picked, bound}
+use Rattle.relays.proofs.Join.{row-of-join, commutative, associative, joins, related-exchanged, related-join}
+use Rattle.relays.proofs.Written.{compared-order, taken-join, take-done}
+use Rattle.relays.proofs.Read.{frame, first-file, second-file, related, under-first, as-files}
+use Rattle.relays.proofs.Files.{take-meets-none}
+
+-- desk d's own row is nowhere behind in the first of two books
+abbrev Ahead : ℕ → ℕ → ℕ → Book → Book → Type 0
+Ahead n p d a b = (k : ℕ) → k < p → atLeast (columns n) (numbers (row a k d)) (numbers (row b k d)) ≡ true
+
+module _ (n p d : ℕ) (d<n : d < n) where
+  -- nor in what it joins, beside what it was ahead of; nor behind a join of two that it is ahead of
+  ahead-joined : (a b c : Book) → Related n p a b → Ahead n p d a c → Ahead n p d (join n p a b) c
+  ahead-joined a b c ab ac k l = at-least-transitive (columns n) _ _ _ (joins n p a b ab .above-first k d l d<n) (ac k l)
+
+  ahead-of-join : (a b c : Book) → Ahead n p d a b → Ahead n p d a c → Ahead n p d a (join n p b c)
+  ahead-of-join a b c ab ac k l =
+      subst (λ (r : List ℕ). atLeast (columns n) (numbers (row a k d)) (numbers r) ≡ true) (sym (row-of-join n p b c k d l d<n))
+      (picked n (λ r. atLeast (columns n) (numbers (row a k d)) (numbers r) ≡ true) (ab k l) (ac k l))
+
+-- so it is where a take was accepted
+accepted-ahead : (d : ℕ) (a b : List ℕ) → Octets a → Octets b → takeAnswer d a b ≡ 0 → Ahead (desks a) (piles a) d (bookOf a) (bookOf b)
+unfolding rowAnswer joinRow
+accepted-ahead d a b oa ob e k l =
+    let n = desks a in
+    let p = piles a in
+    let met = take-meets-none d a b e in
+    let ab = related a b met oa ob in
+    let x = row (bookOf a) k d in
+    let y = row (bookOf b) k d in
+    let known = taker-known d a b e in
+    let not-later : isCopyLater (order n x y) ≡ false
+    = ap isCopyLater (sym (compared-order n p (pileNumber a) (frame a b met oa ob) (bookOf a) (bookOf b) (ab .first) (ab .second) k d l known)
+    ∙ ap₂ (λ (s t : List ℕ). compared (rowPart s k (suc d)) (rowPart t k (suc d))) (first-file a b met oa ob) (second-file a b met oa ob))
+    ∙ sym (and-true _)
+    ∙ ap (λ (t : Bool). isCopyLater (compared (rowPart a k (suc d)) (rowPart b k (suc d))) and t) (sym (eq-eqb d d refl))
+    ∙ when-done _ _ (orElse-rest _ _ (rows-pass d a b e k d l known)) in
+    subst (λ (later : Bool). atLeast (columns n) (numbers (cond later y x)) (numbers y) ≡ true) not-later (bound n x y (ab .no-split k d l known) .copy)
+
+module _ (n p : ℕ) (pileNumbers : ℕ → ℕ) (frame : Frame n p pileNumbers) where
+  abbrev at : Book → List ℕ
+  at a = file n p pileNumbers a
+
+  -- a take of desk d that is accepted, and what it leaves
+  module _ (d : ℕ) (d<n : d < n) (a b : Book) (ab : Related n p a b) (ahead : Ahead n p d a b) where
+    accepts : takeAnswer d (at a) (at b) ≡ 0
+    accepts = take-done n p pileNumbers frame a b ab d d<n ahead
+
+    leaves : afterTake d (at a) (at b) ≡ at (join n p a b)
+    unfolding afterTake
+    leaves = when-accepted _ _ _ accepts ∙ taken-join n p pileNumbers frame a b ab
+
+  written-relays : (d e : ℕ) (a b c : Book) → d < n → e < n → Related n p a b → Related n p b c → Related n p a c
+      → Ahead n p d a b → Ahead n p d a c → Ahead n p e b c → Relayed d e (at a) (at b) (at c)
+  written-relays d e a b c d<n e<n ab bc ac b-behind c-behind c-behind-at-e =
+      let cb = related-exchanged n p bc in
+      let two-c = related-join n p ab bc ac in
+      let two-b = related-join n p ac cb ab in
+      let a-two = related-exchanged n p (related-join n p bc (related-exchanged n p ac) (related-exchanged n p ab)) in
+      let ahead-c = ahead-joined n p d d<n a b c ab c-behind in
+      let ahead-b = ahead-joined n p d d<n a c b ac b-behind in
+      let ahead-two = ahead-of-join n p d d<n a b c b-behind c-behind in
+      let after-b = leaves d d<n a b ab b-behind in
+      let after-c = leaves d d<n a c ac c-behind in
+      let at-e = leaves e e<n b c bc c-behind-at-e in
+      let b-then-c : afterTake d (afterTake d (at a) (at b)) (at c) ≡ at (join n p (join n p a b) c)
+      = ap (λ (x : List ℕ). afterTake d x (at c)) after-b ∙ leaves d d<n (join n p a b) c two-c ahead-c in
+      let c-then-b : afterTake d (afterTake d (at a) (at c)) (at b) ≡ at (join n p (join n p a c) b)
+      = ap (λ (x : List ℕ). afterTake d x (at b)) after-c ∙ leaves d d<n (join n p a c) b two-b ahead-b in
+      let at-once : afterTake d (at a) (afterTake e (at b) (at c)) ≡ at (join n p a (join n p b c))
+      = ap (afterTake d (at a)) at-e ∙ leaves d d<n a (join n p b c) a-two ahead-two in
+      record {
+        c-after-b = subst (λ (x : List ℕ). takeAnswer d x (at c) ≡ 0) (sym after-b) (accepts d d<n (join n p a b) c two-c ahead-c);
+        b-after-c = subst (λ (x : List ℕ). takeAnswer d x (at b) ≡ 0) (sym after-c) (accepts d d<n (join n p a c) b two-b ahead-b);
+        both-at-once = subst (λ (x : List ℕ). takeAnswer d (at a) x ≡ 0) (sym at-e) (accepts d d<n a (join n p b c) a-two ahead-two);
+        same-in-turn =
+            b-then-c
+            ∙ ap at (associative n p a b c ab bc ac ∙ ap (join n p a) (commutative n p b c bc) ∙ sym (associative n p a c b ac cb ab))
+            ∙ sym c-then-b;
+        same-at-once = b-then-c ∙ ap at (associative n p a b c ab bc ac) ∙ sym at-once;
+      }
+
+-- Where desk d's takes of b and of c are accepted, and desk e's take of c into b, their grouping and order are of no consequence to desk d.
+pub relays : (d e : ℕ) (a b c : List ℕ) → Octets a → Octets b → Octets c → takeAnswer d a b ≡ 0 → takeAnswer d a c ≡ 0 → takeAnswer e b c ≡ 0 → Relayed d e a b c
+relays d e a b c oa ob oc ab ac bc =
+    let ab-met = take-meets-none d a b ab in
+    let ac-met = take-meets-none d a c ac in
+    let bc-met = take-meets-none e b c bc in
+    as-files (Relayed d e) a b c oa ob oc ab-met ac-met
+    (written-relays (desks a) (piles a) (pileNumber a) (frame a b ab-met oa ob) d e (bookOf a) (bookOf b) (bookOf c) (taker-known d a b ab)
+    (under-first (λ n p. e < n) a b ab-met (taker-known e b c bc))
+    (related a b ab-met oa ob) (under-first (λ n p. Related n p (bookOf b) (bookOf c)) a b ab-met (related b c bc-met ob oc)) (related a c ac-met oa oc)
+    (accepted-ahead d a b oa ob ab) (accepted-ahead d a c oa oc ac) (under-first (λ n p. Ahead n p e (bookOf b) (bookOf c)) a b ab-met (accepted-ahead e b c ob oc bc)))
