@@ -25,10 +25,11 @@ test: listings test-c test-rust
 	$(RT) fmt --check
 	$(RT) ci
 
-# Proves the rules, the tickets and their lists, and the lister, shows the cases that a theorem each says hold, and lists the worked book G.
-CASES = crates/rules/proofs/Cases/Letters.antt crates/rules/proofs/Cases/Places.antt crates/ticket/proofs/Cases.antt crates/reconcile/proofs/Cases.antt
+# Proves the rules, the relays, the tickets and their lists, and the lister, shows the cases that a theorem each says hold, and lists the worked book G.
+CASES = crates/rules/proofs/Cases/Letters.antt crates/rules/proofs/Cases/Places.antt crates/ticket/proofs/Cases.antt crates/reconcile/proofs/Cases.antt \
+	crates/relays/proofs/Cases.antt
 run:
-	@$(RT) check rules ticket reconcile lister
+	@$(RT) check rules relays ticket reconcile lister
 	@sed -n 's/^.*case "\(.*\)".*$$/holds: \1/p' $(CASES)
 	@target/bin/lister <crates/lister/stdin
 
@@ -67,7 +68,7 @@ install: $(ARCHIVE)
 bench: $(ARCHIVE)
 	$(RUST) bench $(RUST_FLAGS) --bench bench
 
-# The comparison with the model and the histories again and again, each round from a new seed, for FUZZ_SECONDS.
+# The comparison with the model, the histories and the relays again and again, each round from a new seed, for FUZZ_SECONDS.
 fuzz: $(ARCHIVE)
 	$(RUST) test --release $(RUST_FLAGS) --no-run
-	FUZZ_SECONDS=$(FUZZ_SECONDS) sh tests/fuzz $(RUST) test --release $(RUST_FLAGS) --test against_model --test histories
+	FUZZ_SECONDS=$(FUZZ_SECONDS) sh tests/fuzz $(RUST) test --release $(RUST_FLAGS) --test against_model --test histories --test relays

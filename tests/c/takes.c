@@ -55,6 +55,35 @@ static void rows_changed(void)
     passed("a take reports the pairs of a pile and a desk whose row changed");
 }
 
+/* Desk 0's copy and desk 1's reach desk 2: one by one, in either order, or by way of desk 1. */
+static void relays(void)
+{
+    uint8_t zero[WORKED_LENGTH], one[sizeof zero], in_turn[sizeof zero], exchanged[sizeof zero], at_once[sizeof zero];
+    uint32_t changed = 77;
+    open_f(zero);
+    memcpy(one, zero, sizeof zero);
+    EXPECT(pit_tip(zero, sizeof zero, 0, WORKED_PILE, 30), PIT_DONE);
+    memcpy(in_turn, zero, sizeof zero);
+    EXPECT(pit_tip(in_turn, sizeof in_turn, 2, WORKED_PILE, 1), PIT_DONE);
+    EXPECT(pit_draw(zero, sizeof zero, 0, WORKED_PILE, 4), PIT_DONE);
+    EXPECT(pit_tip(one, sizeof one, 1, WORKED_PILE, 2), PIT_DONE);
+    memcpy(exchanged, in_turn, sizeof in_turn);
+    memcpy(at_once, in_turn, sizeof in_turn);
+
+    EXPECT(pit_take(in_turn, sizeof in_turn, zero, sizeof zero, 2, &changed), PIT_DONE);
+    EXPECT(changed, 1);
+    EXPECT(pit_take(in_turn, sizeof in_turn, one, sizeof one, 2, &changed), PIT_DONE);
+    EXPECT(changed, 1);
+    EXPECT(pit_take(exchanged, sizeof exchanged, one, sizeof one, 2, &changed), PIT_DONE);
+    EXPECT(pit_take(exchanged, sizeof exchanged, zero, sizeof zero, 2, &changed), PIT_DONE);
+    EXPECT(pit_take(one, sizeof one, zero, sizeof zero, 1, &changed), PIT_DONE);
+    EXPECT(pit_take(at_once, sizeof at_once, one, sizeof one, 2, &changed), PIT_DONE);
+    EXPECT(changed, 2);
+    EXPECT_BYTES(exchanged, in_turn, sizeof in_turn);
+    EXPECT_BYTES(at_once, in_turn, sizeof in_turn);
+    passed("copies relayed in any order and grouping leave the same book");
+}
+
 /* Desk 0 acted twice from one old book on the second pile; the first pile's row alone could be taken. */
 static void split_at_the_second_pile(void)
 {
@@ -95,6 +124,7 @@ void takes(void)
 {
     takes_done();
     rows_changed();
+    relays();
     split_at_the_second_pile();
     takes_refused();
 }

@@ -36,6 +36,27 @@ fn rows_of_every_pile_once() {
     assert_eq!(copy, own);
 }
 
+/// Two copies reach desk 2: one by one, in either order, or by way of desk 1.
+#[test]
+fn relays_in_any_order_and_grouping() {
+    let (mut zero, mut one) = (f(), f());
+    zero.tip(0, 7, 30).unwrap();
+    let mut two = zero.clone();
+    two.tip(2, 7, 1).unwrap();
+    zero.draw(0, 7, 4).unwrap();
+    one.tip(1, 7, 2).unwrap();
+
+    let (mut in_turn, mut exchanged, mut at_once) = (two.clone(), two.clone(), two);
+    assert_eq!(in_turn.take(&zero, 2), Ok(1));
+    assert_eq!(in_turn.take(&one, 2), Ok(1));
+    assert_eq!(exchanged.take(&one, 2), Ok(1));
+    assert_eq!(exchanged.take(&zero, 2), Ok(1));
+    assert_eq!(one.take(&zero, 1), Ok(1));
+    assert_eq!(at_once.take(&one, 2), Ok(2));
+    assert_eq!(exchanged, in_turn);
+    assert_eq!(at_once, in_turn);
+}
+
 /// What changed is counted by pile and desk.
 #[test]
 fn news_of_two_desks_on_three_piles() {
