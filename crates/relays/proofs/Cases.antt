@@ -1,12 +1,17 @@
 -- The laws on three small books, computed, so that a wrong join is refused by the law that it breaks; and a table of what joins give and of what takes meet.
 -- Assumes nothing.
-use Prim.Native.Nat.{ℕ, suc}
+use Prim.Native.Nat.{ℕ, suc, _+_}
 use mathlib.Core.Path.{_≡_, refl}
+use mathlib.Core.Bool.{Bool, cond}
 use mathlib.Core.List.{List, [], _∷_, _++_}
+use lib.Dec.{eqb}
+use Rattle.rules.specs.Loops.{_or_, list}
+use Rattle.rules.specs.Refusals.{first}
+use Rattle.rules.specs.Pile.{pileAnswer}
 use Rattle.rules.specs.Take.{takeAnswer, afterTake}
 use Rattle.rules.proofs.Cases.Letters.{F, G}
 use Rattle.rules.proofs.Cases.Table.{Case, case, AllHold, all-hold, open-loops, open-refusals, open-numbers, open-pile, open-layout, open-rows, open-opening, open-book, open-take}
-use Rattle.relays.specs.Join.{Body, Book, joinRow, joinBody, join}
+use Rattle.relays.specs.Join.{Body, Book, bodyIn, pileIn, joinRow, joinBody, join}
 use Rattle.relays.specs.Files.{bookOf, file, joinedFile, joinAnswer}
 
 -- two desks; floor 10, top 110, draw shares 0 and 0, tip shares 60 and 40
@@ -71,15 +76,42 @@ mine = file 1 3 suc (alone 10 0 ∷ alone 20 0 ∷ alone 20 5 ∷ [])
 abbrev reloaded : List ℕ
 reloaded = file 1 3 suc (alone 20 0 ∷ alone 10 0 ∷ alone 30 0 ∷ [])
 
+-- a book of any size: floor 0, top n, to each desk a tip share of 1, which these desks tipped on every pile
+abbrev wide : ℕ → ℕ → (ℕ → Bool) → Book
+wide n p tipped =
+    list p (λ k. record {
+      opening = 0 ∷ n ∷ (list n (λ i. 0) ++ list n (λ i. 1));
+      rows = list n (λ i. cond (tipped i) 1 0 ∷ 0 ∷ list (n + n) (λ c. 0));
+    })
+
+abbrev wideJoin : Book
+wideJoin = join 9 33 (wide 9 33 (λ i. eqb i 0)) (wide 9 33 (λ i. eqb i 8))
+
+abbrev all : Book
+all = pile gave (tipped 20) ∷ pile (tipped 5) drew ∷ []
+
 abbrev table : List Case
 table =
-    case "6/12: two books joined have the later row of each desk, on both piles" (shownBook (join 2 2 a b))
+    case "6/12: two books joined have the later row of each desk, on both piles"
+    (shownBook (join 2 2 a b))
     (shownBook (pile gave none ∷ pile (tipped 5) (tipped 7) ∷ []))
-    ∷ case "6/12: three books joined, in either grouping" (shownBook (join 2 2 (join 2 2 a b) c) ++ shownBook (join 2 2 a (join 2 2 b c)))
-    (shownBook (pile gave (tipped 20) ∷ pile (tipped 5) drew ∷ []) ++ shownBook (pile gave (tipped 20) ∷ pile (tipped 5) drew ∷ []))
-    ∷ case "6/12: the file of a book holds that book" (shownBook (bookOf (file 2 2 suc a)) ++ file 2 2 suc (bookOf (file 2 2 suc b))) (shownBook a ++ file 2 2 suc b)
-    ∷ case "6/12: F and G joined as files, in either order, are G, as where desk 0 takes F into G" (joinedFile F G ++ joinedFile G F) (G ++ afterTake 0 G F)
-    ∷ case "6/12: a take of either by the other meets 32 on pile 1 or 2, joining them 31 on pile 3" (takeAnswer 0 mine reloaded ∷ takeAnswer 0 reloaded mine ∷ joinAnswer mine reloaded ∷ joinAnswer reloaded mine ∷ [])
+    ∷ case "6/12: three books joined, in either grouping"
+    (shownBook (join 2 2 (join 2 2 a b) c) ++ shownBook (join 2 2 a (join 2 2 b c)))
+    (shownBook all ++ shownBook all)
+    ∷ case "6/12: nine desks and 33 piles joined, lawful again"
+    (shownBook wideJoin ++ first 33 (λ k. pileAnswer 9 (pileIn 9 (bodyIn wideJoin k))) ∷ [])
+    (shownBook (wide 9 33 (λ i. eqb i 0 or eqb i 8)) ++ 0 ∷ [])
+    ∷ case "6/12: of two split rows the join has the first book's, so that such books do not commute"
+    (shownBook (join 2 1 (pile gave none ∷ []) (pile (tipped 40) none ∷ [])) ++ shownBook (join 2 1 (pile (tipped 40) none ∷ []) (pile gave none ∷ [])))
+    (shownBook (pile gave none ∷ pile (tipped 40) none ∷ []))
+    ∷ case "6/12: the file of a book holds that book"
+    (shownBook (bookOf (file 2 2 suc a)) ++ file 2 2 suc (bookOf (file 2 2 suc b)))
+    (shownBook a ++ file 2 2 suc b)
+    ∷ case "6/12: F and G joined as files, in either order, are G, as where desk 0 takes F into G"
+    (joinedFile F G ++ joinedFile G F)
+    (G ++ afterTake 0 G F)
+    ∷ case "6/12: each take of the other's file meets 32, on pile 1 or 2, where joining the two meets 31, on pile 3"
+    (takeAnswer 0 mine reloaded ∷ takeAnswer 0 reloaded mine ∷ joinAnswer mine reloaded ∷ joinAnswer reloaded mine ∷ [])
     (32 ∷ 32 ∷ 31 ∷ 31 ∷ [])
     ∷ []
 

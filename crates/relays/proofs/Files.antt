@@ -1,24 +1,20 @@
 -- The order of relays on bytes: an accepted take is the join, and readable files that meet neither 30 nor 31 have its laws.
 -- Assumes nothing.
-use Prim.Native.Nat.{ℕ, suc, _<_}
+use Prim.Native.Nat.{ℕ, _<_}
 use mathlib.Core.Path.{_≡_, refl, ap, ap₂, sym, subst, _∙_}
-use mathlib.Core.Logic.{_⊎_, inl, inr, ⊎-elim}
-use mathlib.Core.Bool.{Bool, true, false, not}
+use mathlib.Core.Logic.{_⊎_, inl, inr}
+use mathlib.Core.Bool.{true, not}
 use mathlib.Core.List.{List}
-use lib.Dec.{eqb}
 use borrow.Author.Tests.{lt-ltb}
-use Rattle.rules.specs.Loops.{_and_}
-use Rattle.rules.specs.Refusals.{_when_, _orElse_, first}
 use Rattle.rules.specs.Layout.{desks, piles, pileNumber}
-use Rattle.rules.specs.Rows.{isCopyLater, isSplit, compared}
 use Rattle.rules.specs.Book.{bookAnswer}
-use Rattle.rules.specs.Take.{rowPart, ofCopy, sameBook, rowAnswer, takeAnswer, taken, afterTake}
+use Rattle.rules.specs.Take.{ofCopy, sameBook, rowAnswer, takeAnswer, taken, afterTake}
 use Rattle.rules.proofs.Loops.Refusals.{not-met, none-met, first-none, orElse-passes, when-either, orElse-either, first-either, when-accepted}
 use Rattle.rules.proofs.Bytes.Numbers.{Octets}
 use Rattle.rules.proofs.File.LawfulBook.{Frame}
 use Rattle.rules.proofs.Take.InPlace as take
 use Rattle.relays.specs.Join.{Book, join}
-use Rattle.relays.specs.Laws.{JoinLaws, Related}
+use Rattle.relays.specs.Laws.{Related}
 use Rattle.relays.specs.Files.{bookOf, file, joinedFile, joinAnswer, FileJoins, FileLaws}
 use Rattle.relays.proofs.Join.{commutative, associative, idempotent, related-exchanged, related-itself, related-join}
 use Rattle.relays.proofs.Written.{file-readable, same-books, taken-join, join-accepted}

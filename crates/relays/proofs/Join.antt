@@ -8,12 +8,13 @@ use lib.ListN.{length, getD}
 use lib.Seq.{ext-getD}
 use Rattle.rules.specs.Loops.{list}
 use Rattle.rules.specs.Layout.{columns}
-use Rattle.rules.specs.Rows.{atLeast, isSplit, isCopyLater, bothAlike}
+use Rattle.rules.specs.Rows.{atLeast, isSplit}
 use Rattle.rules.proofs.Loops.Pieces.{length-list, getD-list, list-cong}
+use Rattle.rules.proofs.Take.Order.{at-least-itself, at-least-transitive}
 use Rattle.rules.proofs.Take.RowOrder.{LeastAbove, itself-alike}
 use Rattle.relays.specs.Join.{Body, Book, rowIn, bodyIn, row, numbers, order, joinRow, joinBody, join}
-use Rattle.relays.specs.Laws.{LawfulBody, LawfulBook, OneOpening, NoSplit, Above, Joins, JoinLaws, Related, OrderOfRelays}
-use Rattle.relays.proofs.Rows.{picked, bound, exchanged, row-idempotent, row-commutative, row-associative}
+use Rattle.relays.specs.Laws.{LawfulBody, LawfulBook, OneOpening, Above, Joins, Related, OrderOfRelays}
+use Rattle.relays.proofs.Rows.{picked, bound, antisymmetric, exchanged, row-idempotent, row-commutative, row-associative}
 use Rattle.relays.proofs.Lawful.{joined-row, joined-lawful}
 
 -- a list is the list of what stands at its places
@@ -59,6 +60,22 @@ module _ (n p : ℕ) where
       list-cong p (λ k l. ap {B = Body} (λ (r : List (List ℕ)). record { opening = bodyIn a k .opening; rows = r })
       (list-cong n (λ i m. row-idempotent n (row a k i)) ∙ relisted [] n (bodyIn a k .rows) (lawful .bodies k l .desks)))
       ∙ relisted _ p a (lawful .piles)
+
+  -- `Above` is a partial order of lawful books of one opening
+  pub above-reflexive : (a : Book) → Above n p a a
+  above-reflexive a k i l m = at-least-itself (columns n) _
+
+  pub above-transitive : (a b c : Book) → Above n p a b → Above n p b c → Above n p a c
+  above-transitive a b c ab bc k i l m = at-least-transitive (columns n) _ _ _ (ab k i l m) (bc k i l m)
+
+  pub above-antisymmetric : (a b : Book) → LawfulBook n p a → LawfulBook n p b → OneOpening p a b → Above n p a b → Above n p b a → a ≡ b
+  above-antisymmetric a b lawful-a lawful-b opening ab ba =
+      sym (idempotent a lawful-a)
+      ∙ same-join a a b b opening
+      (λ k i l m. row-idempotent n (row a k i)
+      ∙ antisymmetric n (lawful-a .bodies k l .rows i m) (lawful-b .bodies k l .rows i m) (ab k i l m) (ba k i l m)
+      ∙ sym (row-idempotent n (row b k i)))
+      ∙ idempotent b lawful-b
 
   -- a row of the join as the joined row
   along : (a b : Book) (P : List ℕ → Type 0) (k i : ℕ) → k < p → i < n → P (joinRow n (row a k i) (row b k i)) → P (row (join n p a b) k i)
@@ -113,8 +130,8 @@ module _ (n p : ℕ) where
             along a b Whole k i l m (picked n Whole (ac .no-split k i l m) (bc .no-split k i l m));
       }
 
--- The order of relays, for any number of desks and piles. In the field's words (source document 004): under `Above`, lawful books of one opening with no split between
--- any two of them are a join-semilattice, and `join` is their least upper bound. Its laws come from these facts about the rows of a desk:
+-- The order of relays, for any number of desks and piles. In the field's words (source document 004): lawful books of one opening with no split between any two of them are
+-- a join-semilattice, of which `Above` is the order and `join` the least upper bound. Its laws come from these facts about the rows of a desk:
 -- * commutative and associative: the later or common row is the least upper bound of two rows that are not split (`latest-bound`), at least is transitive, and two least
 --   upper bounds are at least each other and so one row (`antisymmetric`);
 -- * idempotent: the joined row is one of the two (`picked`);

@@ -1,15 +1,13 @@
 -- Two lawful bodies of one opening with no split have a lawful join: the row of each desk is that of one of the two, where its rights covered what it spent, and
 -- what the others gave it has only grown.
 -- Assumes nothing.
-use Prim.Native.Nat.{ℕ, suc, _+_, _≤_, _<_}
+use Prim.Native.Nat.{ℕ, _+_, _≤_, _<_}
 use native.Mathlib.Nat.{le-of-eq, le-trans, add-le-add}
-use native.Mathlib.Omega.{arith}
 use mathlib.Core.Path.{_≡_, refl, ap, sym, subst}
 use mathlib.Core.Bool.{false}
 use mathlib.Core.List.{List, []}
-use lib.ListN.{length}
-use Rattle.rules.specs.Loops.{sum, list}
-use Rattle.rules.specs.Pile.{Side, draw, tip, other, Pile, credit, debit, tallyLimit}
+use Rattle.rules.specs.Loops.{sum}
+use Rattle.rules.specs.Pile.{Side, other, Pile, credit, debit, tallyLimit}
 use Rattle.rules.specs.Layout.{columns, column, earnedColumn}
 use Rattle.rules.specs.Rows.{isSplit}
 use Rattle.rules.proofs.Loops.Sums.{sum-le}

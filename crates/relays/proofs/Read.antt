@@ -1,21 +1,20 @@
 -- A readable file is that of the book it holds, which is lawful; and two files that meet neither 30 nor 31 hold related books.
 -- Assumes nothing.
-use Prim.Native.Nat.{ℕ, zero, suc, _<_}
+use Prim.Native.Nat.{ℕ, suc, _<_}
 use mathlib.Core.Path.{_≡_, refl, ap, ap₂, sym, subst, _∙_}
 use mathlib.Core.Bool.{true, false}
 use mathlib.Core.List.{List, []}
 use lib.ListN.{length, getD}
 use borrow.Author.Tests.{eqb-true}
-use Rattle.rules.specs.Loops.{list}
 use Rattle.rules.specs.Pile.{Side, draw, tip, Pile, pileAnswer, sameOpening}
 use Rattle.rules.specs.Layout.{column, desks, piles, pileNumber, pileOf, rowOf, bodyRow}
 use Rattle.rules.specs.Rows.{isSplit, compared}
 use Rattle.rules.specs.Book.{bookAnswer}
-use Rattle.rules.specs.Take.{rowPart, ofCopy, sameBook}
+use Rattle.rules.specs.Take.{rowPart, sameBook}
 use Rattle.rules.proofs.Loops.Logic.{and-left, and-right}
 use Rattle.rules.proofs.Loops.Every.{every-at}
 use Rattle.rules.proofs.Loops.Refusals.{when-done, when-not-done, orElse-first, orElse-rest, first-at}
-use Rattle.rules.proofs.Loops.Pieces.{length-list, getD-list, list-cong}
+use Rattle.rules.proofs.Loops.Pieces.{length-list, getD-list}
 use Rattle.rules.proofs.Bytes.Numbers.{Octets}
 use Rattle.rules.proofs.Pile.Facts.{both-at}
 use Rattle.rules.proofs.Pile.Agree.{Agree, answer-cong}
@@ -24,8 +23,8 @@ use Rattle.rules.proofs.File.Written.{book-cong}
 use Rattle.rules.proofs.File.Readable.{BookFacts, book-facts, rewritten}
 use Rattle.rules.proofs.File.LawfulBook.{Frame, readable-frame}
 use Rattle.rules.proofs.Take.InPlace.{OneBook, one-book-facts, copy-done}
-use Rattle.relays.specs.Join.{Body, Book, rowIn, bodyIn, row, pileIn, order}
-use Rattle.relays.specs.Laws.{LawfulBody, LawfulBook, OneOpening, NoSplit, Related}
+use Rattle.relays.specs.Join.{Body, Book, rowIn, bodyIn, pileIn}
+use Rattle.relays.specs.Laws.{LawfulBody, LawfulBook, OneOpening, Related}
 use Rattle.relays.specs.Files.{bodyOf, bookOf, file, joinAnswer}
 use Rattle.relays.proofs.Written.{compared-order}
 

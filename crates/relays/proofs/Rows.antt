@@ -16,10 +16,11 @@ use Rattle.rules.proofs.Take.RowOrder.{LeastAbove, latest-bound, split-exchange
 use Rattle.relays.specs.Join.{numbers, order, joinRow}
 
 module _ (n : ℕ) where
-  abbrev above : List ℕ → List ℕ → Type 0
+  -- at least at every place; not split; with as many numbers as a row has
+  abbrev pub above : List ℕ → List ℕ → Type 0
   above x y = atLeast (columns n) (numbers x) (numbers y) ≡ true
 
-  abbrev Whole : List ℕ → List ℕ → Type 0
+  abbrev pub Whole : List ℕ → List ℕ → Type 0
   Whole x y = isSplit (order n x y) ≡ false
 
   abbrev pub Long : List ℕ → Type 0
@@ -40,7 +41,7 @@ module _ (n : ℕ) where
       go false b = b
 
   -- rows of n desks that are at least each other are one
-  antisymmetric : {x y : List ℕ} → Long x → Long y → above x y → above y x → x ≡ y
+  pub antisymmetric : {x y : List ℕ} → Long x → Long y → above x y → above y x → x ≡ y
   antisymmetric {x} {y} a b e d =
       ext-getD 0 x y (a ∙ sym b)
       (λ c l. let l′ : c < columns n = subst (λ (m : ℕ). c < m) a l in le-antisymm (at-least-at _ _ _ d c l′) (at-least-at _ _ _ e c l′))

@@ -4,12 +4,11 @@ use Prim.Native.Nat.{ℕ, suc, _<_}
 use mathlib.Core.Path.{_≡_, refl, ap, ap₂, sym, subst, _∙_}
 use mathlib.Core.Bool.{Bool, true, false, cond}
 use mathlib.Core.List.{List}
-use lib.Dec.{eqb}
 use borrow.Author.Tests.{eq-eqb}
 use Rattle.rules.specs.Loops.{_and_}
 use Rattle.rules.specs.Layout.{columns, desks, piles, pileNumber}
 use Rattle.rules.specs.Rows.{atLeast, isCopyLater, compared}
-use Rattle.rules.specs.Take.{rowPart, rowAnswer, takeAnswer, taken, afterTake}
+use Rattle.rules.specs.Take.{rowPart, rowAnswer, takeAnswer, afterTake}
 use Rattle.rules.proofs.Loops.Logic.{and-true}
 use Rattle.rules.proofs.Loops.Refusals.{when-done, orElse-rest, when-accepted}
 use Rattle.rules.proofs.Bytes.Numbers.{Octets}

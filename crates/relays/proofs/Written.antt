@@ -4,9 +4,8 @@ use Prim.Native.Nat.{ℕ, suc, _<_, suc-le-suc}
 use native.Mathlib.Omega.{arith}
 use mathlib.Core.Path.{_≡_, refl, ap, ap₂, sym, subst, _∙_}
 use mathlib.Core.Logic.{_⊎_, inl, inr, ⊎-map}
-use mathlib.Core.Bool.{Bool, true, false, not}
+use mathlib.Core.Bool.{true, not}
 use mathlib.Core.List.{List}
-use lib.ListN.{getD}
 use Rattle.rules.specs.Pile.{Side, draw, tip, Pile}
 use Rattle.rules.specs.Layout.{columns, column, earnedColumn, rowOf, bodyRow, bookBytes}
 use Rattle.rules.specs.Rows.{atLeast, rowOrder, isSplit, numbersOf, compared}
@@ -24,7 +23,7 @@ use Rattle.rules.proofs.Take.RowBytes as bytes
 use Rattle.rules.proofs.Take.MergeRow.{RowLe}
 use Rattle.rules.proofs.Take.Merge.{Merged, same-book, take-accepted, taken-book}
 use Rattle.relays.specs.Join.{Body, Book, bodyIn, row, numbers, cell, pileIn, order, join}
-use Rattle.relays.specs.Laws.{LawfulBook, OneOpening, Related}
+use Rattle.relays.specs.Laws.{LawfulBook, Related}
 use Rattle.relays.specs.Files.{file, joinAnswer}
 use Rattle.relays.proofs.Rows.{picked}
 use Rattle.relays.proofs.Join.{row-of-join, joins}
