@@ -65,7 +65,7 @@ module _ (n p : ℕ) (pileNumbers : ℕ → ℕ) (frame : Frame n p pileNumbers)
   written-joins a b ab =
       let back = related-join n p ab (related-exchanged n p ab) (related-itself n p (ab .first)) in
       record {
-        met = join-accepted n p pileNumbers frame a b ab;
+        meets-none = join-accepted n p pileNumbers frame a b ab;
         readable = subst (λ (x : List ℕ). bookAnswer x ≡ 0) (sym (joined a b ab)) (file-readable n p pileNumbers frame (join n p a b) (back .first));
         opening = subst (λ (x : List ℕ). sameBook x (at a) ≡ true) (sym (joined a b ab)) (same-books n p pileNumbers frame (join n p a b) a back);
       }

@@ -1,4 +1,6 @@
--- In the order in which to read them: no file cites a later one.
+-- In the order in which to read them: no file cites a later one. Cases: the laws on three small books, computed. Rows, Lawful and Join: the laws at one row, lawful bodies,
+-- and the theorem, of books of any size. Written and Read: the files of such books, and the books of readable files. Files: an accepted take is the join, and the laws
+-- on bytes. Takes: grouping and order of accepted takes.
 pub mod Cases
 pub mod Rows
 pub mod Lawful

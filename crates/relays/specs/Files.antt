@@ -38,7 +38,7 @@ joinAnswer own copy =
 
 -- One join of files, beside `Joins`: it meets none of those refusals, and what comes out, which is what an accepted take leaves, is readable and of the same opening.
 pub record FileJoins (a b : List ℕ) : Type 0 where
-  pub met : joinAnswer a b ≡ 0
+  pub meets-none : joinAnswer a b ≡ 0
   pub readable : bookAnswer (taken a b) ≡ 0
   pub opening : sameBook (taken a b) a ≡ true
 

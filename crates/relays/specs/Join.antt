@@ -44,7 +44,7 @@ pileIn n x = view n (cell x)
 abbrev pub order : ℕ → List ℕ → List ℕ → Comparison
 order n mine copy = rowOrder (columns n) (numbers mine) (numbers copy)
 
--- "for each pile and desk, the later row, or the common row"
+-- "for each pile and desk, the later row, or the common row"; of two split rows, which the laws keep out, mine
 unfoldable pub joinRow : ℕ → List ℕ → List ℕ → List ℕ
 joinRow n mine copy = cond (isCopyLater (order n mine copy)) copy mine
 
