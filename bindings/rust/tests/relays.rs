@@ -2,7 +2,8 @@
 //! opening with no split between any two of them are taken into each other in
 //! every order and grouping, by every desk. A take must be accepted where the
 //! desk's own row is nowhere behind and meet 32 elsewhere, never 30 or 31; and
-//! what comes out in the end must be the same, whichever way it came.
+//! what comes out in the end must be the same, whichever way it came. So it must
+//! for random plans of relays, which name a book more than once.
 //!
 //! PITBOOK_RELAYS sets how many threes, PITBOOK_SEED which.
 
@@ -134,6 +135,37 @@ impl Seen {
     }
 }
 
+/// A random plan over so many books, some of them the same; what it gives, and
+/// which it names.
+fn plan(
+    seen: &mut Seen,
+    chance: &mut Chance,
+    books: &[Book; 3],
+    count: usize,
+    at: &str,
+) -> (Book, [bool; 3]) {
+    if count == 1 {
+        let k = chance.below(3);
+        return (books[k].clone(), std::array::from_fn(|j| j == k));
+    }
+    let first = 1 + chance.below(count - 1);
+    let (x, in_x) = plan(seen, chance, books, first, at);
+    let (y, in_y) = plan(seen, chance, books, count - first, at);
+    seen.join(&x, &y, at);
+    (joined(&x, &y), std::array::from_fn(|k| in_x[k] || in_y[k]))
+}
+
+/// What a plan gives depends on the books that it names alone.
+fn try_plan(seen: &mut Seen, chance: &mut Chance, books: &[Book; 3], at: &str) {
+    let count = 2 + chance.below(7);
+    let (given, named) = plan(seen, chance, books, count, at);
+    let named: Vec<&Book> = (0..3).filter(|&k| named[k]).map(|k| &books[k]).collect();
+    let due = named
+        .iter()
+        .fold(named[0].clone(), |all, book| joined(&all, book));
+    assert!(given == due, "{at}: a plan of {count} books");
+}
+
 #[test]
 fn grouping_is_of_no_consequence() {
     let (relays, seed) = (from_environment("PITBOOK_RELAYS", RELAYS), seed());
@@ -141,7 +173,9 @@ fn grouping_is_of_no_consequence() {
     for number in 0..relays {
         let mut chance = Chance::new(seed, 612, number);
         let at = format!("PITBOOK_SEED={seed}, relay {number}");
-        seen.try_all(&three(&mut chance), &at);
+        let books = three(&mut chance);
+        seen.try_all(&books, &at);
+        try_plan(&mut seen, &mut chance, &books, &at);
     }
     say(&format!(
         "\nPITBOOK_SEED={seed} PITBOOK_RELAYS={relays}\n\

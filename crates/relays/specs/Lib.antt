@@ -1,3 +1,4 @@
 pub mod Join
 pub mod Laws
 pub mod Files
+pub mod Plans
