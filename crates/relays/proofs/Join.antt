@@ -1,20 +1,19 @@
--- The order of relays: the laws of the join, book by book from row by row.
+-- The order of relays: the join of two books is their least upper bound, row by row, and the laws follow from that.
 -- Assumes nothing.
 use Prim.Native.Nat.{ℕ, _<_}
 use mathlib.Core.Path.{_≡_, refl, ap, ap₂, sym, subst, _∙_}
-use mathlib.Core.Bool.{true, false}
 use mathlib.Core.List.{List, []}
 use lib.ListN.{length, getD}
 use lib.Seq.{ext-getD}
 use Rattle.rules.specs.Loops.{list}
 use Rattle.rules.specs.Layout.{columns}
-use Rattle.rules.specs.Rows.{atLeast, isSplit}
+use Rattle.rules.specs.Rows.{isSplit}
 use Rattle.rules.proofs.Loops.Pieces.{length-list, getD-list, list-cong}
 use Rattle.rules.proofs.Take.Order.{at-least-itself, at-least-transitive}
 use Rattle.rules.proofs.Take.RowOrder.{LeastAbove, itself-alike}
 use Rattle.relays.specs.Join.{Body, Book, rowIn, bodyIn, row, numbers, order, joinRow, joinBody, join}
 use Rattle.relays.specs.Laws.{LawfulBody, LawfulBook, OneOpening, Above, Joins, Related, OrderOfRelays}
-use Rattle.relays.proofs.Rows.{picked, bound, antisymmetric, exchanged, row-idempotent, row-commutative, row-associative}
+use Rattle.relays.proofs.Rows.{above, Whole, picked, bound, antisymmetric, exchanged, row-idempotent}
 use Rattle.relays.proofs.Lawful.{joined-row, joined-lawful}
 
 -- a list is the list of what stands at its places
@@ -34,48 +33,32 @@ module _ (n p : ℕ) where
   unfolding joinBody
   opening-of-join a b k l = ap (λ (x : Body). x .opening) (body-of-join a b k l)
 
-  -- two joins are one where their openings are and their rows
-  same-join : (a b c d : Book) → OneOpening p a c → ((k i : ℕ) → k < p → i < n → joinRow n (row a k i) (row b k i) ≡ joinRow n (row c k i) (row d k i))
-      → join n p a b ≡ join n p c d
-  unfolding join joinBody
-  same-join a b c d opening rows =
-      list-cong p (λ k l. ap₂ {C = Body} (λ (o : List ℕ) (r : List (List ℕ)). record { opening = o; rows = r }) (opening k l) (list-cong n (λ i m. rows k i l m)))
+  -- a lawful book by its openings and rows
+  abbrev bodies : (ℕ → List ℕ) → (ℕ → ℕ → List ℕ) → Book
+  bodies openings rows = list p (λ k. record { opening = openings k; rows = list n (rows k) })
 
-  pub commutative : (a b : Book) → Related n p a b → join n p a b ≡ join n p b a
-  commutative a b ab =
-      same-join a b b a (ab .opening)
-      (λ k i l m. row-commutative n _ _ (ab .first .bodies k l .rows i m) (ab .second .bodies k l .rows i m) (ab .no-split k i l m))
+  same-bodies : {o o′ : ℕ → List ℕ} {r r′ : ℕ → ℕ → List ℕ} → ((k : ℕ) → k < p → o k ≡ o′ k) → ((k i : ℕ) → k < p → i < n → r k i ≡ r′ k i)
+      → bodies o r ≡ bodies o′ r′
+  same-bodies openings rows =
+      list-cong p (λ k l. ap₂ {C = Body} (λ (o : List ℕ) (r : List (List ℕ)). record { opening = o; rows = r }) (openings k l) (list-cong n (λ i m. rows k i l m)))
 
-  pub associative : (a b c : Book) → Related n p a b → Related n p b c → Related n p a c → join n p (join n p a b) c ≡ join n p a (join n p b c)
-  associative a b c ab bc ac =
-      same-join (join n p a b) c a (join n p b c) (opening-of-join a b)
-      (λ k i l m. ap (λ (r : List ℕ). joinRow n r (row c k i)) (row-of-join a b k i l m)
-      ∙ row-associative n _ _ _ (ab .first .bodies k l .rows i m) (ab .second .bodies k l .rows i m) (ac .second .bodies k l .rows i m)
-      (ab .no-split k i l m) (bc .no-split k i l m) (ac .no-split k i l m)
-      ∙ ap (joinRow n (row a k i)) (sym (row-of-join b c k i l m)))
-
-  pub idempotent : (a : Book) → LawfulBook n p a → join n p a a ≡ a
-  unfolding join joinBody
-  idempotent a lawful =
-      list-cong p (λ k l. ap {B = Body} (λ (r : List (List ℕ)). record { opening = bodyIn a k .opening; rows = r })
-      (list-cong n (λ i m. row-idempotent n (row a k i)) ∙ relisted [] n (bodyIn a k .rows) (lawful .bodies k l .desks)))
+  by-bodies : (a : Book) → LawfulBook n p a → bodies (λ k. bodyIn a k .opening) (row a) ≡ a
+  by-bodies a lawful =
+      list-cong p (λ k l. ap {B = Body} (λ (r : List (List ℕ)). record { opening = bodyIn a k .opening; rows = r }) (relisted [] n (bodyIn a k .rows) (lawful .bodies k l .desks)))
       ∙ relisted _ p a (lawful .piles)
 
   -- `Above` is a partial order of lawful books of one opening
   pub above-reflexive : (a : Book) → Above n p a a
-  above-reflexive a k i l m = at-least-itself (columns n) _
+  above-reflexive a = record { rows = λ k i l m. at-least-itself (columns n) _ }
 
-  pub above-transitive : (a b c : Book) → Above n p a b → Above n p b c → Above n p a c
-  above-transitive a b c ab bc k i l m = at-least-transitive (columns n) _ _ _ (ab k i l m) (bc k i l m)
+  pub above-transitive : {a b c : Book} → Above n p a b → Above n p b c → Above n p a c
+  above-transitive ab bc = record { rows = λ k i l m. at-least-transitive (columns n) _ _ _ (ab .rows k i l m) (bc .rows k i l m) }
 
   pub above-antisymmetric : (a b : Book) → LawfulBook n p a → LawfulBook n p b → OneOpening p a b → Above n p a b → Above n p b a → a ≡ b
   above-antisymmetric a b lawful-a lawful-b opening ab ba =
-      sym (idempotent a lawful-a)
-      ∙ same-join a a b b opening
-      (λ k i l m. row-idempotent n (row a k i)
-      ∙ antisymmetric n (lawful-a .bodies k l .rows i m) (lawful-b .bodies k l .rows i m) (ab k i l m) (ba k i l m)
-      ∙ sym (row-idempotent n (row b k i)))
-      ∙ idempotent b lawful-b
+      sym (by-bodies a lawful-a)
+      ∙ same-bodies opening (λ k i l m. antisymmetric n (lawful-a .bodies k l .rows i m) (lawful-b .bodies k l .rows i m) (ab .rows k i l m) (ba .rows k i l m))
+      ∙ by-bodies b lawful-b
 
   -- a row of the join as the joined row
   along : (a b : Book) (P : List ℕ → Type 0) (k i : ℕ) → k < p → i < n → P (joinRow n (row a k i) (row b k i)) → P (row (join n p a b) k i)
@@ -95,10 +78,11 @@ module _ (n p : ℕ) where
                   (joined-lawful n _ _ (ab .first .bodies k l) (ab .second .bodies k l) (ab .opening k l) (λ i m. ab .no-split k i l m));
             };
         opening = opening-of-join a b;
-        above-first = λ k i l m. along a b (λ r. atLeast (columns n) (numbers r) (numbers (row a k i)) ≡ true) k i l m (least k i l m .mine);
-        above-second = λ k i l m. along a b (λ r. atLeast (columns n) (numbers r) (numbers (row b k i)) ≡ true) k i l m (least k i l m .copy);
-        least = λ x e d k i l m. along a b (λ r. atLeast (columns n) (numbers (row x k i)) (numbers r) ≡ true) k i l m
-            (least k i l m .least _ (e k i l m) (d k i l m));
+        above-first = record { rows = λ k i l m. along a b (λ r. above n r (row a k i)) k i l m (least k i l m .mine) };
+        above-second = record { rows = λ k i l m. along a b (λ r. above n r (row b k i)) k i l m (least k i l m .copy) };
+        least = λ x e d. record {
+          rows = λ k i l m. along a b (above n (row x k i)) k i l m (least k i l m .least _ (e .rows k i l m) (d .rows k i l m));
+        };
       }
 
   -- lawful books of one opening with no split stay so: exchanged, each with itself, and two of them joined beside the third
@@ -126,14 +110,38 @@ module _ (n p : ℕ) where
         first = joins a b ab .lawful;
         second = ac .second;
         opening = λ k l. opening-of-join a b k l ∙ ac .opening k l;
-        no-split = λ k i l m. let Whole : List ℕ → Type 0 = λ r. isSplit (order n r (row c k i)) ≡ false in
-            along a b Whole k i l m (picked n Whole (ac .no-split k i l m) (bc .no-split k i l m));
+        no-split = λ k i l m. along a b (λ r. Whole n r (row c k i)) k i l m
+            (picked n (λ r. Whole n r (row c k i)) (ac .no-split k i l m) (bc .no-split k i l m));
       }
+
+  -- the three laws: a least upper bound is the only one
+  pub commutative : (a b : Book) → Related n p a b → join n p a b ≡ join n p b a
+  commutative a b ab =
+      let first = joins a b ab in
+      let second = joins b a (related-exchanged ab) in
+      above-antisymmetric (join n p a b) (join n p b a) (first .lawful) (second .lawful) (λ k l. first .opening k l ∙ ab .opening k l ∙ sym (second .opening k l))
+      (second .least _ (first .above-second) (first .above-first)) (first .least _ (second .above-second) (second .above-first))
+
+  pub associative : (a b c : Book) → Related n p a b → Related n p b c → Related n p a c → join n p (join n p a b) c ≡ join n p a (join n p b c)
+  associative a b c ab bc ac =
+      let two = joins a b ab in
+      let last = joins b c bc in
+      let left = joins (join n p a b) c (related-join ab bc ac) in
+      let right = joins a (join n p b c) (related-exchanged (related-join bc (related-exchanged ac) (related-exchanged ab))) in
+      above-antisymmetric _ _ (left .lawful) (right .lawful) (λ k l. left .opening k l ∙ two .opening k l ∙ sym (right .opening k l))
+      (right .least _ (above-transitive (left .above-first) (two .above-first))
+      (last .least _ (above-transitive (left .above-first) (two .above-second)) (left .above-second)))
+      (left .least _ (two .least _ (right .above-first) (above-transitive (right .above-second) (last .above-first)))
+      (above-transitive (right .above-second) (last .above-second)))
+
+  pub idempotent : (a : Book) → LawfulBook n p a → join n p a a ≡ a
+  unfolding join joinBody
+  idempotent a lawful = same-bodies (λ k l. refl) (λ k i l m. row-idempotent n (row a k i)) ∙ by-bodies a lawful
 
 -- The order of relays, for any number of desks and piles. In the field's words (source document 004): lawful books of one opening with no split between any two of them are
 -- a join-semilattice, of which `Above` is the order and `join` the least upper bound. Its laws come from these facts about the rows of a desk:
--- * commutative and associative: the later or common row is the least upper bound of two rows that are not split (`latest-bound`), at least is transitive, and two least
---   upper bounds are at least each other and so one row (`antisymmetric`);
+-- * commutative and associative: the later or common row is the least upper bound of two rows that are not split (`latest-bound`), at least is transitive
+--   (`at-least-transitive`), and two least upper bounds are at least each other and so one row (`antisymmetric`);
 -- * idempotent: the joined row is one of the two (`picked`);
 -- * no join meets a split: a row is alike to itself (`itself-alike`), what splits two rows splits them exchanged (`split-exchanged`), and the joined row, being one of the
 --   two, is split with no third row that neither of them is split with (`picked`);

@@ -26,8 +26,8 @@ module _ (n p : ℕ) (books : ℕ → Book) (related : (i j : ℕ) → Related n
   above-named (book j) i e = subst (λ (k : ℕ). Above n p (books j) (books k)) (sym e) (above-reflexive n p (books j))
   above-named (relay t u) i named =
       let both = joins n p (given t) (given u) (plans-related t u) in
-      ⊎-elim (λ m. above-transitive n p (given (relay t u)) (given t) (books i) (both .above-first) (above-named t i m))
-      (λ m. above-transitive n p (given (relay t u)) (given u) (books i) (both .above-second) (above-named u i m)) named
+      ⊎-elim (λ m. above-transitive n p (both .above-first) (above-named t i m))
+      (λ m. above-transitive n p (both .above-second) (above-named u i m)) named
 
   least-named : (t : Plan) (x : Book) → ((i : ℕ) → Names t i → Above n p x (books i)) → Above n p x (given t)
   least-named (book j) x above = above j refl

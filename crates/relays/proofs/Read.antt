@@ -23,7 +23,7 @@ use Rattle.rules.proofs.File.Written.{book-cong}
 use Rattle.rules.proofs.File.Readable.{BookFacts, book-facts, rewritten}
 use Rattle.rules.proofs.File.LawfulBook.{Frame, readable-frame}
 use Rattle.rules.proofs.Take.InPlace.{OneBook, one-book-facts, copy-done}
-use Rattle.relays.specs.Join.{Body, Book, rowIn, bodyIn, pileIn}
+use Rattle.relays.specs.Join.{Body, Book, rowIn, bodyIn, row, pileIn, order}
 use Rattle.relays.specs.Laws.{LawfulBody, LawfulBook, OneOpening, Related}
 use Rattle.relays.specs.Files.{bodyOf, bookOf, file, joinAnswer}
 use Rattle.relays.proofs.Written.{compared-order}
@@ -145,16 +145,18 @@ module _ (a b : List ℕ) (met : joinAnswer a b ≡ 0) where
     pub second-file : file n p (pileNumber a) (bookOf b) ≡ b
     second-file = second-held .0
 
+    pub rows-compared : (k i : ℕ) → k < p → i < n → order n (row (bookOf a) k i) (row (bookOf b) k i) ≡ compared (rowPart a k (suc i)) (rowPart b k (suc i))
+    rows-compared k i l m =
+        sym (compared-order n p (pileNumber a) frame (bookOf a) (bookOf b) (first-held .1) (second-held .1) k i l m)
+        ∙ ap₂ (λ (x y : List ℕ). compared (rowPart x k (suc i)) (rowPart y k (suc i))) first-file second-file
+
     pub related : Related n p (bookOf a) (bookOf b)
     related =
         record {
           first = first-held .1;
           second = second-held .1;
           opening = openings;
-          no-split = λ k i l m.
-              ap isSplit (sym (compared-order n p (pileNumber a) frame (bookOf a) (bookOf b) (first-held .1) (second-held .1) k i l m)
-              ∙ ap₂ (λ (x y : List ℕ). compared (rowPart x k (suc i)) (rowPart y k (suc i))) first-file second-file)
-              ∙ rows-whole k i l m;
+          no-split = λ k i l m. ap isSplit (rows-compared k i l m) ∙ rows-whole k i l m;
         }
 
 -- with a third file: what is said of the sizes of the second holds of those of the first, and the three are files of the books that they hold

@@ -1,5 +1,4 @@
--- The laws at one row. The joined row is one of the two, so it is split with no row that neither of them is split with; and it is their least upper bound in the
--- product order, of which there is just one.
+-- One row of a join. It is one of the two, so it is split with no row that neither of them is split with; and it is their least upper bound in the product order.
 -- Assumes nothing.
 use Prim.Native.Nat.{ℕ, _<_}
 use native.Mathlib.Nat.{le-antisymm}
@@ -11,7 +10,7 @@ use lib.Seq.{ext-getD}
 use Rattle.history.proofs.Sets.{cases}
 use Rattle.rules.specs.Layout.{columns}
 use Rattle.rules.specs.Rows.{atLeast, isCopyLater, isSplit}
-use Rattle.rules.proofs.Take.Order.{at-least-at, at-least-transitive}
+use Rattle.rules.proofs.Take.Order.{at-least-at}
 use Rattle.rules.proofs.Take.RowOrder.{LeastAbove, latest-bound, split-exchanged}
 use Rattle.relays.specs.Join.{numbers, order, joinRow}
 
@@ -31,6 +30,7 @@ module _ (n : ℕ) where
   unfolding joinRow
   picked P {x} {y} px py = cases P (isCopyLater (order n x y)) (λ _. py) (λ _. px)
 
+  -- it is the least upper bound
   pub bound : (x y : List ℕ) → Whole x y → LeastAbove (columns n) (numbers x) (numbers y) (numbers (joinRow n x y))
   unfolding joinRow
   bound x y s = go (isCopyLater (order n x y)) (latest-bound (columns n) (numbers x) (numbers y) s)
@@ -46,26 +46,10 @@ module _ (n : ℕ) where
       ext-getD 0 x y (a ∙ sym b)
       (λ c l. let l′ : c < columns n = subst (λ (m : ℕ). c < m) a l in le-antisymm (at-least-at _ _ _ d c l′) (at-least-at _ _ _ e c l′))
 
+  -- with the two exchanged they are split just the same
   pub exchanged : (x y : List ℕ) → Whole x y → Whole y x
   exchanged x y s = split-exchanged (columns n) (numbers y) (numbers x) ∙ s
 
+  -- a row joined with itself
   pub row-idempotent : (x : List ℕ) → joinRow n x x ≡ x
   row-idempotent x = picked (λ r. r ≡ x) refl refl
-
-  pub row-commutative : (x y : List ℕ) → Long x → Long y → Whole x y → joinRow n x y ≡ joinRow n y x
-  row-commutative x y a b s =
-      let xy = bound x y s in
-      let yx = bound y x (exchanged x y s) in
-      antisymmetric (picked Long a b) (picked Long b a) (yx .least _ (xy .copy) (xy .mine)) (xy .least _ (yx .copy) (yx .mine))
-
-  pub row-associative : (x y z : List ℕ) → Long x → Long y → Long z → Whole x y → Whole y z → Whole x z
-      → joinRow n (joinRow n x y) z ≡ joinRow n x (joinRow n y z)
-  row-associative x y z a b c s t u =
-      let xy = bound x y s in
-      let yz = bound y z t in
-      let left = bound (joinRow n x y) z (picked (λ r. Whole r z) u t) in
-      let right = bound x (joinRow n y z) (picked (λ r. Whole x r) s u) in
-      let over = at-least-transitive (columns n) in
-      antisymmetric (picked Long (picked Long a b) c) (picked Long a (picked Long b c))
-      (right .least _ (over _ _ _ (left .mine) (xy .mine)) (yz .least _ (over _ _ _ (left .mine) (xy .copy)) (left .copy)))
-      (left .least _ (xy .least _ (right .mine) (over _ _ _ (right .copy) (yz .mine))) (over _ _ _ (right .copy) (yz .copy)))

@@ -1,13 +1,13 @@
 -- Takes in any grouping: the join that a desk is left with is never behind in its own row, so no take is refused.
 -- Assumes nothing.
 use Prim.Native.Nat.{ℕ, suc, _<_}
-use mathlib.Core.Path.{_≡_, refl, ap, ap₂, sym, subst, _∙_}
-use mathlib.Core.Bool.{Bool, true, false, cond}
+use mathlib.Core.Path.{_≡_, refl, ap, sym, subst, _∙_}
+use mathlib.Core.Bool.{Bool, false, cond}
 use mathlib.Core.List.{List}
 use borrow.Author.Tests.{eq-eqb}
 use Rattle.rules.specs.Loops.{_and_}
 use Rattle.rules.specs.Layout.{columns, desks, piles, pileNumber}
-use Rattle.rules.specs.Rows.{atLeast, isCopyLater, compared}
+use Rattle.rules.specs.Rows.{isCopyLater, compared}
 use Rattle.rules.specs.Take.{rowPart, rowAnswer, takeAnswer, afterTake}
 use Rattle.rules.proofs.Loops.Logic.{and-true}
 use Rattle.rules.proofs.Loops.Refusals.{when-done, orElse-rest, when-accepted}
@@ -15,47 +15,41 @@ use Rattle.rules.proofs.Bytes.Numbers.{Octets}
 use Rattle.rules.proofs.File.LawfulBook.{Frame}
 use Rattle.rules.proofs.Take.Order.{at-least-transitive}
 use Rattle.rules.proofs.Take.InPlace.{taker-known, rows-pass}
-use Rattle.relays.specs.Join.{Book, row, numbers, order, joinRow, join}
+use Rattle.relays.specs.Join.{Book, row, order, joinRow, join}
 use Rattle.relays.specs.Laws.{Related}
 use Rattle.relays.specs.Files.{bookOf, file, Relayed}
-use Rattle.relays.proofs.Rows.{picked, bound}
+use Rattle.relays.proofs.Rows.{above, picked, bound}
 use Rattle.relays.proofs.Join.{row-of-join, commutative, associative, joins, related-exchanged, related-join}
-use Rattle.relays.proofs.Written.{compared-order, taken-join, take-done}
-use Rattle.relays.proofs.Read.{frame, first-file, second-file, related, under-first, as-files}
+use Rattle.relays.proofs.Written.{taken-join, take-done}
+use Rattle.relays.proofs.Read.{frame, rows-compared, related, under-first, as-files}
 use Rattle.relays.proofs.Files.{take-meets-none}
 
 -- desk d's own row is nowhere behind in the first of two books
 abbrev Ahead : ℕ → ℕ → ℕ → Book → Book → Type 0
-Ahead n p d a b = (k : ℕ) → k < p → atLeast (columns n) (numbers (row a k d)) (numbers (row b k d)) ≡ true
+Ahead n p d a b = (k : ℕ) → k < p → above n (row a k d) (row b k d)
 
 module _ (n p d : ℕ) (d<n : d < n) where
   -- nor in what it joins, beside what it was ahead of; nor behind a join of two that it is ahead of
   ahead-joined : (a b c : Book) → Related n p a b → Ahead n p d a c → Ahead n p d (join n p a b) c
-  ahead-joined a b c ab ac k l = at-least-transitive (columns n) _ _ _ (joins n p a b ab .above-first k d l d<n) (ac k l)
+  ahead-joined a b c ab ac k l = at-least-transitive (columns n) _ _ _ (joins n p a b ab .above-first .rows k d l d<n) (ac k l)
 
   ahead-of-join : (a b c : Book) → Ahead n p d a b → Ahead n p d a c → Ahead n p d a (join n p b c)
   ahead-of-join a b c ab ac k l =
-      subst (λ (r : List ℕ). atLeast (columns n) (numbers (row a k d)) (numbers r) ≡ true) (sym (row-of-join n p b c k d l d<n))
-      (picked n (λ r. atLeast (columns n) (numbers (row a k d)) (numbers r) ≡ true) (ab k l) (ac k l))
+      subst (above n (row a k d)) (sym (row-of-join n p b c k d l d<n)) (picked n (above n (row a k d)) (ab k l) (ac k l))
 
 -- so it is where a take was accepted
 accepted-ahead : (d : ℕ) (a b : List ℕ) → Octets a → Octets b → takeAnswer d a b ≡ 0 → Ahead (desks a) (piles a) d (bookOf a) (bookOf b)
 unfolding rowAnswer joinRow
 accepted-ahead d a b oa ob e k l =
-    let n = desks a in
-    let p = piles a in
     let met = take-meets-none d a b e in
-    let ab = related a b met oa ob in
+    let known = taker-known d a b e in
+    let rows = compared (rowPart a k (suc d)) (rowPart b k (suc d)) in
+    let not-later : isCopyLater rows ≡ false
+    = sym (and-true (isCopyLater rows)) ∙ ap (λ (t : Bool). isCopyLater rows and t) (sym (eq-eqb d d refl)) ∙ when-done _ _ (orElse-rest _ _ (rows-pass d a b e k d l known)) in
     let x = row (bookOf a) k d in
     let y = row (bookOf b) k d in
-    let known = taker-known d a b e in
-    let not-later : isCopyLater (order n x y) ≡ false
-    = ap isCopyLater (sym (compared-order n p (pileNumber a) (frame a b met oa ob) (bookOf a) (bookOf b) (ab .first) (ab .second) k d l known)
-    ∙ ap₂ (λ (s t : List ℕ). compared (rowPart s k (suc d)) (rowPart t k (suc d))) (first-file a b met oa ob) (second-file a b met oa ob))
-    ∙ sym (and-true _)
-    ∙ ap (λ (t : Bool). isCopyLater (compared (rowPart a k (suc d)) (rowPart b k (suc d))) and t) (sym (eq-eqb d d refl))
-    ∙ when-done _ _ (orElse-rest _ _ (rows-pass d a b e k d l known)) in
-    subst (λ (later : Bool). atLeast (columns n) (numbers (cond later y x)) (numbers y) ≡ true) not-later (bound n x y (ab .no-split k d l known) .copy)
+    subst (λ (later : Bool). above (desks a) (cond later y x) y) (ap isCopyLater (rows-compared a b met oa ob k d l known) ∙ not-later)
+    (bound (desks a) x y (related a b met oa ob .no-split k d l known) .copy)
 
 module _ (n p : ℕ) (pileNumbers : ℕ → ℕ) (frame : Frame n p pileNumbers) where
   abbrev at : Book → List ℕ

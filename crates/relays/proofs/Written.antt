@@ -8,7 +8,7 @@ use mathlib.Core.Bool.{true, not}
 use mathlib.Core.List.{List}
 use Rattle.rules.specs.Pile.{Side, draw, tip, Pile}
 use Rattle.rules.specs.Layout.{columns, column, earnedColumn, rowOf, bodyRow, bookBytes}
-use Rattle.rules.specs.Rows.{atLeast, rowOrder, isSplit, numbersOf, compared}
+use Rattle.rules.specs.Rows.{rowOrder, isSplit, numbersOf, compared}
 use Rattle.rules.specs.Book.{bookAnswer}
 use Rattle.rules.specs.Take.{rowPart, ofCopy, sameBook, takeAnswer, taken}
 use Rattle.rules.proofs.Loops.Pieces.{getD-list}
@@ -25,7 +25,7 @@ use Rattle.rules.proofs.Take.Merge.{Merged, same-book, take-accepted, taken-boo
 use Rattle.relays.specs.Join.{Body, Book, bodyIn, row, numbers, cell, pileIn, order, join}
 use Rattle.relays.specs.Laws.{LawfulBook, Related}
 use Rattle.relays.specs.Files.{file, joinAnswer}
-use Rattle.relays.proofs.Rows.{picked}
+use Rattle.relays.proofs.Rows.{above, picked}
 use Rattle.relays.proofs.Join.{row-of-join, joins}
 
 earned-below : (n : ℕ) (s : Side) → earnedColumn s < columns n
@@ -38,7 +38,7 @@ module _ (n p : ℕ) where
   pilesOf a k = pileIn n (bodyIn a k)
 
   -- a desk's tallies are nowhere above those of a row that is at least its own
-  row-le : (a b : Book) (k i : ℕ) → atLeast (columns n) (numbers (row a k i)) (numbers (row b k i)) ≡ true → RowLe n (pilesOf b k) (pilesOf a k) i
+  row-le : (a b : Book) (k i : ℕ) → above n (row a k i) (row b k i) → RowLe n (pilesOf b k) (pilesOf a k) i
   row-le a b k i e =
       record {
         earned = λ s. at-least-at (columns n) _ _ e (earnedColumn s) (earned-below n s);
@@ -50,15 +50,15 @@ module _ (n p : ℕ) where
   unfolding bodyRow
   merged a b ab k l =
       let j = joins n p a b ab in
-      let opening : List ℕ → List ℕ = λ o. rowOf n (numbers o 0) (numbers o 1) (λ s i. numbers o (column n s i)) in
+      let as-written : List ℕ → List ℕ = λ o. rowOf n (numbers o 0) (numbers o 1) (λ s i. numbers o (column n s i)) in
       record {
         floor = ap (λ (o : List ℕ). numbers o 0) (ab .opening k l);
         top = ap (λ (o : List ℕ). numbers o 1) (ab .opening k l);
         share = λ s i m. ap (λ (o : List ℕ). numbers o (column n s i)) (ab .opening k l);
-        opening = ap opening (j .opening k l);
+        opening = ap as-written (j .opening k l);
         desk = λ i m. ⊎-map
-            (λ e. (row-le a b k i (subst (λ (r : List ℕ). atLeast (columns n) (numbers r) (numbers (row b k i)) ≡ true) e (j .above-second k i l m)), ap opening e))
-            (λ e. (row-le b a k i (subst (λ (r : List ℕ). atLeast (columns n) (numbers r) (numbers (row a k i)) ≡ true) e (j .above-first k i l m)), ap opening e))
+            (λ e. (row-le a b k i (subst (λ (r : List ℕ). above n r (row b k i)) e (j .above-second .rows k i l m)), ap as-written e))
+            (λ e. (row-le b a k i (subst (λ (r : List ℕ). above n r (row a k i)) e (j .above-first .rows k i l m)), ap as-written e))
             (⊎-map (λ e. row-of-join n p a b k i l m ∙ e) (λ e. row-of-join n p a b k i l m ∙ e)
             (picked n (λ r. (r ≡ row a k i) ⊎ (r ≡ row b k i)) (inl refl) (inr refl)));
       }
@@ -109,7 +109,7 @@ module _ (n p : ℕ) where
           (merged a b ab)
 
       -- where the taker's own row is not behind, the take is accepted
-      pub take-done : (d : ℕ) → d < n → ((k : ℕ) → k < p → atLeast (columns n) (numbers (row a k d)) (numbers (row b k d)) ≡ true) → takeAnswer d (at a) (at b) ≡ 0
+      pub take-done : (d : ℕ) → d < n → ((k : ℕ) → k < p → above n (row a k d) (row b k d)) → takeAnswer d (at a) (at b) ≡ 0
       unfolding file
       take-done d d<n ahead =
           take-accepted n p pileNumbers frame (pilesOf a) (pilesOf b) (pilesOf (join n p a b)) (lawful-piles a (ab .first)) (lawful-piles b (ab .second))

@@ -28,8 +28,8 @@ abbrev pub NoSplit : ℕ → ℕ → Book → Book → Type 0
 NoSplit n p a b = (k i : ℕ) → k < p → i < n → isSplit (order n (row a k i) (row b k i)) ≡ false
 
 -- The order of books of one opening: every tally of the first is at least that of the second.
-abbrev pub Above : ℕ → ℕ → Book → Book → Type 0
-Above n p a b = (k i : ℕ) → k < p → i < n → atLeast (columns n) (numbers (row a k i)) (numbers (row b k i)) ≡ true
+pub record Above (n p : ℕ) (a b : Book) : Type 0 where
+  pub rows : (k i : ℕ) → k < p → i < n → atLeast (columns n) (numbers (row a k i)) (numbers (row b k i)) ≡ true
 
 -- One join: it meets no split, what comes out is lawful and of the same opening, and it is the least upper bound of the two.
 pub record Joins (n p : ℕ) (a b : Book) : Type 0 where
