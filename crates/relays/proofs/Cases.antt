@@ -8,7 +8,8 @@ use lib.Dec.{eqb}
 use Rattle.rules.specs.Loops.{_or_, list}
 use Rattle.rules.specs.Refusals.{first}
 use Rattle.rules.specs.Pile.{pileAnswer}
-use Rattle.rules.specs.Take.{takeAnswer, afterTake}
+use Rattle.rules.specs.Book.{bookAnswer}
+use Rattle.rules.specs.Take.{takeAnswer, taken, afterTake}
 use Rattle.rules.proofs.Cases.Letters.{F, G}
 use Rattle.rules.proofs.Cases.Table.{Case, case, AllHold, all-hold, open-loops, open-refusals, open-numbers, open-pile, open-layout, open-rows, open-opening, open-book, open-take}
 use Rattle.relays.specs.Join.{Body, Book, bodyIn, pileIn, joinRow, joinBody, join}
@@ -110,9 +111,9 @@ table =
     ∷ case "6/12: F and G joined as files, in either order, are G, as where desk 0 takes F into G"
     (joinedFile F G ++ joinedFile G F)
     (G ++ afterTake 0 G F)
-    ∷ case "6/12: each take of the other's file meets 32, on pile 1 or 2, where joining the two meets 31, on pile 3"
-    (takeAnswer 0 mine reloaded ∷ takeAnswer 0 reloaded mine ∷ joinAnswer mine reloaded ∷ joinAnswer reloaded mine ∷ [])
-    (32 ∷ 32 ∷ 31 ∷ 31 ∷ [])
+    ∷ case "6/12: each take of the other's file meets 32, on pile 1 or 2, where joining the two meets 31, on pile 3, and no book would come out"
+    (takeAnswer 0 mine reloaded ∷ takeAnswer 0 reloaded mine ∷ joinAnswer mine reloaded ∷ joinAnswer reloaded mine ∷ bookAnswer (taken mine reloaded) ∷ [])
+    (32 ∷ 32 ∷ 31 ∷ 31 ∷ 3 ∷ [])
     ∷ []
 
 pub cases-hold : AllHold table
