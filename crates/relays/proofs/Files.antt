@@ -16,7 +16,7 @@ use Rattle.rules.proofs.Take.InPlace as take
 use Rattle.relays.specs.Join.{Book, join}
 use Rattle.relays.specs.Laws.{Related}
 use Rattle.relays.specs.Files.{bookOf, file, joinedFile, joinAnswer, FileJoins, FileLaws}
-use Rattle.relays.proofs.Join.{commutative, associative, idempotent, related-exchanged, related-itself, related-join}
+use Rattle.relays.proofs.Join.{related-exchanged, related-itself, related-join, related-to-join, order-of-relays}
 use Rattle.relays.proofs.Written.{file-readable, same-books, taken-join, join-accepted}
 use Rattle.relays.proofs.Read.{first-readable, second-readable, same-book, rows-whole, frame, first-file, second-file, related, under-first, as-files}
 
@@ -72,17 +72,18 @@ module _ (n p : ℕ) (pileNumbers : ℕ → ℕ) (frame : Frame n p pileNumbers)
 
   written-laws : (a b c : Book) → Related n p a b → Related n p b c → Related n p a c → FileLaws (at a) (at b) (at c)
   written-laws a b c ab bc ac =
+      let laws = order-of-relays n p a b c ab bc ac in
       let ba = related-exchanged n p ab in
       let aa = related-itself n p (ab .first) in
       let ab-c = related-join n p ab bc ac in
-      let a-bc = related-exchanged n p (related-join n p bc (related-exchanged n p ac) ba) in
+      let a-bc = related-to-join n p ab bc ac in
       record {
-        commutative = joined a b ab ∙ ap at (commutative n p a b ab) ∙ sym (joined b a ba);
+        commutative = joined a b ab ∙ ap at (laws .commutative) ∙ sym (joined b a ba);
         associative =
             ap (λ (x : List ℕ). taken x (at c)) (joined a b ab) ∙ joined (join n p a b) c ab-c
-            ∙ ap at (associative n p a b c ab bc ac)
+            ∙ ap at (laws .associative)
             ∙ sym (ap (taken (at a)) (joined b c bc) ∙ joined a (join n p b c) a-bc);
-        idempotent = joined a a aa ∙ ap at (idempotent n p a (ab .first));
+        idempotent = joined a a aa ∙ ap at (laws .idempotent);
         first-second = written-joins a b ab;
         second-first = written-joins b a ba;
         second-third = written-joins b c bc;

@@ -114,6 +114,9 @@ module _ (n p : ℕ) where
             (picked n (λ r. Whole n r (row c k i)) (ac .no-split k i l m) (bc .no-split k i l m));
       }
 
+  pub related-to-join : {a b c : Book} → Related n p a b → Related n p b c → Related n p a c → Related n p a (join n p b c)
+  related-to-join ab bc ac = related-exchanged (related-join bc (related-exchanged ac) (related-exchanged ab))
+
   -- the three laws: a least upper bound is the only one
   pub commutative : (a b : Book) → Related n p a b → join n p a b ≡ join n p b a
   commutative a b ab =
@@ -127,14 +130,14 @@ module _ (n p : ℕ) where
       let two = joins a b ab in
       let last = joins b c bc in
       let left = joins (join n p a b) c (related-join ab bc ac) in
-      let right = joins a (join n p b c) (related-exchanged (related-join bc (related-exchanged ac) (related-exchanged ab))) in
+      let right = joins a (join n p b c) (related-to-join ab bc ac) in
       above-antisymmetric _ _ (left .lawful) (right .lawful) (λ k l. left .opening k l ∙ two .opening k l ∙ sym (right .opening k l))
       (right .least _ (above-transitive (left .above-first) (two .above-first))
       (last .least _ (above-transitive (left .above-first) (two .above-second)) (left .above-second)))
       (left .least _ (two .least _ (right .above-first) (above-transitive (right .above-second) (last .above-first)))
       (above-transitive (right .above-second) (last .above-second)))
 
-  pub idempotent : (a : Book) → LawfulBook n p a → join n p a a ≡ a
+  idempotent : (a : Book) → LawfulBook n p a → join n p a a ≡ a
   unfolding join joinBody
   idempotent a lawful = same-bodies (λ k l. refl) (λ k i l m. row-idempotent n (row a k i)) ∙ by-bodies a lawful
 
@@ -148,16 +151,14 @@ module _ (n p : ℕ) where
 -- * lawful: what a desk spent stands in its own row, which is one of the two; what it was given stands in the other desks' rows, which have only grown (`Lawful`).
 pub order-of-relays : OrderOfRelays
 order-of-relays n p a b c ab bc ac =
-    let ba = related-exchanged n p ab in
-    let ca = related-exchanged n p ac in
     record {
       commutative = commutative n p a b ab;
       associative = associative n p a b c ab bc ac;
       idempotent = idempotent n p a (ab .first);
       first-second = joins n p a b ab;
-      second-first = joins n p b a ba;
+      second-first = joins n p b a (related-exchanged n p ab);
       second-third = joins n p b c bc;
       first-itself = joins n p a a (related-itself n p (ab .first));
       two-with-third = joins n p (join n p a b) c (related-join n p ab bc ac);
-      first-with-two = joins n p a (join n p b c) (related-exchanged n p (related-join n p bc ca ba));
+      first-with-two = joins n p a (join n p b c) (related-to-join n p ab bc ac);
     }

@@ -19,7 +19,7 @@ use Rattle.relays.specs.Join.{Book, row, order, joinRow, join}
 use Rattle.relays.specs.Laws.{Related}
 use Rattle.relays.specs.Files.{bookOf, file, Relayed}
 use Rattle.relays.proofs.Rows.{above, picked, bound}
-use Rattle.relays.proofs.Join.{row-of-join, commutative, associative, joins, related-exchanged, related-join}
+use Rattle.relays.proofs.Join.{row-of-join, commutative, associative, joins, related-exchanged, related-join, related-to-join}
 use Rattle.relays.proofs.Written.{taken-join, take-done}
 use Rattle.relays.proofs.Read.{frame, rows-compared, related, under-first, as-files}
 use Rattle.relays.proofs.Files.{take-meets-none}
@@ -70,7 +70,7 @@ module _ (n p : ℕ) (pileNumbers : ℕ → ℕ) (frame : Frame n p pileNumbers)
       let cb = related-exchanged n p bc in
       let two-c = related-join n p ab bc ac in
       let two-b = related-join n p ac cb ab in
-      let a-two = related-exchanged n p (related-join n p bc (related-exchanged n p ac) (related-exchanged n p ab)) in
+      let a-two = related-to-join n p ab bc ac in
       let ahead-c = ahead-joined n p d d<n a b c ab c-behind in
       let ahead-b = ahead-joined n p d d<n a c b ac b-behind in
       let ahead-two = ahead-of-join n p d d<n a b c b-behind c-behind in
