@@ -20,6 +20,9 @@ use support::chance::Chance;
 use support::{from_environment, lawful, say, seed};
 
 const RELAYS: u64 = 2_000;
+/// Other random numbers than those of the calls beside the model, whose places
+/// count from 0.
+const PLACE: u64 = 612;
 
 /// Each order of three books.
 const ORDERS: [[usize; 3]; 6] = [
@@ -171,7 +174,7 @@ fn grouping_is_of_no_consequence() {
     let (relays, seed) = (from_environment("PITBOOK_RELAYS", RELAYS), seed());
     let mut seen = Seen::default();
     for number in 0..relays {
-        let mut chance = Chance::new(seed, 612, number);
+        let mut chance = Chance::new(seed, PLACE, number);
         let at = format!("PITBOOK_SEED={seed}, relay {number}");
         let books = three(&mut chance);
         seen.try_all(&books, &at);

@@ -24,12 +24,12 @@ use Rattle.relays.proofs.Written.{taken-join, take-done}
 use Rattle.relays.proofs.Read.{frame, rows-compared, related, under-first, as-files}
 use Rattle.relays.proofs.Files.{take-meets-none}
 
--- desk d's own row is nowhere behind in the first of two books
+-- desk d is not behind: on every pile its own row in the first book is at least that in the second
 abbrev Ahead : ℕ → ℕ → ℕ → Book → Book → Type 0
 Ahead n p d a b = (k : ℕ) → k < p → above n (row a k d) (row b k d)
 
 module _ (n p d : ℕ) (d<n : d < n) where
-  -- nor in what it joins, beside what it was ahead of; nor behind a join of two that it is ahead of
+  -- a desk that is not behind another book stays so when it joins a third, and is not behind the join of two books that it is not behind
   ahead-joined : (a b c : Book) → Related n p a b → Ahead n p d a c → Ahead n p d (join n p a b) c
   ahead-joined a b c ab ac k l = at-least-transitive (columns n) _ _ _ (joins n p a b ab .above-first .rows k d l d<n) (ac k l)
 
@@ -37,7 +37,7 @@ module _ (n p d : ℕ) (d<n : d < n) where
   ahead-of-join a b c ab ac k l =
       subst (above n (row a k d)) (sym (row-of-join n p b c k d l d<n)) (picked n (above n (row a k d)) (ab k l) (ac k l))
 
--- so it is where a take was accepted
+-- where a take was accepted its desk was not behind
 accepted-ahead : (d : ℕ) (a b : List ℕ) → Octets a → Octets b → takeAnswer d a b ≡ 0 → Ahead (desks a) (piles a) d (bookOf a) (bookOf b)
 unfolding rowAnswer joinRow
 accepted-ahead d a b oa ob e k l =
