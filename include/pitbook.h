@@ -153,8 +153,9 @@ uint8_t pit_give_tip(uint8_t *book, size_t book_length, uint8_t desk, uint16_t p
  * A desk takes another's copy into its own book: for each pile and desk the later row stands there afterwards. The number of pairs of a
  * pile and a desk whose row changed goes to changed. It is 0 exactly when the book's bytes are as they were: the copy held no act that
  * this book lacked.
- * Where the own book may take two copies, and one of these the other, it may take them in either order, or the one that has taken the
- * other: it is left the same bytes.
+ * Order and grouping are of no consequence where no take is refused: if a desk's takes of two copies are both answered 0, and so is a
+ * take of one of these copies into the other, then taking both in either order, or the copy that has taken the other, is answered 0 and
+ * leaves the same bytes.
  * Answers 1 to 7 for the own book, 21 to 27 for the copy, 11, 30, then by pile and by desk 31 or 32, or 0; changed stays where it is
  * not 0.
  */

@@ -68,8 +68,9 @@ impl<B: AsMut<[u8]>> Book<B> {
     /// copy may be old, or taken before. Tells the number of pile and desk pairs whose row changed: 0 exactly when the book's bytes are as
     /// they were, since the copy held no act that this book lacked.
     ///
-    /// Where this book may take two copies, and one of these the other, it may take them in either order, or the one that has taken the
-    /// other: it is left the same bytes.
+    /// Order and grouping are of no consequence where no take is refused: if a desk's takes of two copies are both accepted, and so is a
+    /// take of one of these copies into the other, then taking both in either order, or the copy that has taken the other, is accepted and
+    /// leaves the same bytes.
     ///
     /// Refused where the copy is no lawful book (`Copy…`), with [`DeskAbsent`](Refusal::DeskAbsent), where it is a copy of another book
     /// ([`OpeningDiffers`](Refusal::OpeningDiffers)), and where some desk acted twice from one old book

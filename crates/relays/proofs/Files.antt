@@ -29,7 +29,7 @@ take-meets-none d own copy e =
     (none-met (not-met 30 (ap not (take.one-book d own copy e)))
     (first-none (piles own) (λ k l. first-none (desks own) (λ i m. not-met 31 (take.no-row-split d own copy e k i l m))))))
 
--- and where joining two files meets nothing, a take of one by the other meets neither 30 nor 31, at any desk
+-- and where joining two files meets nothing, a take of the one into the other meets neither 30 nor 31, at any desk
 pub join-meets-none : (d : ℕ) (own copy : List ℕ) → d < desks own → joinAnswer own copy ≡ 0 → (takeAnswer d own copy ≡ 0) ⊎ (takeAnswer d own copy ≡ 32)
 unfolding takeAnswer rowAnswer
 join-meets-none d own copy known met =

@@ -80,7 +80,7 @@ module _ (b : List ℕ) (readable : bookAnswer b ≡ 0) where
         bodies = λ k l. subst (LawfulBody (desks b)) (sym (body-of-file b k l)) (body-lawful (desks b) (pileOf b k) (read .bodies k l));
       }
 
-  -- under whatever names its sizes and pile numbers go
+  -- a readable file is that of its book, under any sizes and pile numbers that are equal to its own
   pub held : Octets b → (n p : ℕ) (pileNumbers : ℕ → ℕ) → desks b ≡ n → piles b ≡ p → ((k : ℕ) → k < p → pileNumbers k ≡ pileNumber b k)
       → (file n p pileNumbers (bookOf b) ≡ b) × LawfulBook n p (bookOf b)
   unfolding file
