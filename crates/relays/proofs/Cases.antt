@@ -91,6 +91,10 @@ wideJoin = join 9 33 (wide 9 33 (λ i. eqb i 0)) (wide 9 33 (λ i. eqb i 8))
 abbrev all : Book
 all = pile gave (tipped 20) ∷ pile (tipped 5) drew ∷ []
 
+-- their files, under the pile numbers 1 and 2
+abbrev filed : Book → List ℕ
+filed x = file 2 2 suc x
+
 abbrev table : List Case
 table =
     case "6/12: two books joined have the later row of each desk, on both piles"
@@ -106,8 +110,14 @@ table =
     (shownBook (join 2 1 (pile gave none ∷ []) (pile (tipped 40) none ∷ [])) ++ shownBook (join 2 1 (pile (tipped 40) none ∷ []) (pile gave none ∷ [])))
     (shownBook (pile gave none ∷ pile (tipped 40) none ∷ []))
     ∷ case "6/12: the file of a book holds that book"
-    (shownBook (bookOf (file 2 2 suc a)) ++ file 2 2 suc (bookOf (file 2 2 suc b)))
-    (shownBook a ++ file 2 2 suc b)
+    (shownBook (bookOf (filed a)) ++ filed (bookOf (filed b)))
+    (shownBook a ++ filed b)
+    ∷ case "6/12: the files of the three books are readable and meet neither 30 nor 31 with each other, nor two of them joined with the third"
+    (joinAnswer (filed a) (filed b) ∷ joinAnswer (filed b) (filed c) ∷ joinAnswer (filed a) (filed c) ∷ joinAnswer (taken (filed a) (filed b)) (filed c) ∷ [])
+    (0 ∷ 0 ∷ 0 ∷ 0 ∷ [])
+    ∷ case "6/12: taken as files, in either grouping, they are the file of the three joined"
+    (taken (taken (filed a) (filed b)) (filed c) ++ taken (filed a) (taken (filed b) (filed c)))
+    (filed all ++ filed all)
     ∷ case "6/12: F and G joined as files, in either order, are G, as where desk 0 takes F into G"
     (joinedFile F G ++ joinedFile G F)
     (G ++ afterTake 0 G F)

@@ -44,14 +44,17 @@ join-meets-none d own copy known met =
     DoneOr32 : ℕ → Type 0
     DoneOr32 answer = (answer ≡ 0) ⊎ (answer ≡ 32)
 
+-- where joining two files meets nothing, what is taken of them is the file of the join, whatever the taker's desk
+pub taken-is-join : (own copy : List ℕ) → Octets own → Octets copy → joinAnswer own copy ≡ 0 → taken own copy ≡ joinedFile own copy
+unfolding joinedFile
+taken-is-join own copy o o′ met =
+    sym (ap₂ taken (first-file own copy met o o′) (second-file own copy met o o′))
+    ∙ taken-join (desks own) (piles own) (pileNumber own) (frame own copy met o o′) (bookOf own) (bookOf copy) (related own copy met o o′)
+
 -- 6/12: the take of document 01 is this join where it is accepted
 pub take-is-join : (d : ℕ) (own copy : List ℕ) → Octets own → Octets copy → takeAnswer d own copy ≡ 0 → afterTake d own copy ≡ joinedFile own copy
-unfolding afterTake joinedFile
-take-is-join d own copy o o′ e =
-    let met = take-meets-none d own copy e in
-    when-accepted _ _ _ e
-    ∙ sym (ap₂ taken (first-file own copy met o o′) (second-file own copy met o o′))
-    ∙ taken-join (desks own) (piles own) (pileNumber own) (frame own copy met o o′) (bookOf own) (bookOf copy) (related own copy met o o′)
+unfolding afterTake
+take-is-join d own copy o o′ e = when-accepted _ _ _ e ∙ taken-is-join own copy o o′ (take-meets-none d own copy e)
 
 -- the laws for files of related books
 module _ (n p : ℕ) (pileNumbers : ℕ → ℕ) (frame : Frame n p pileNumbers) where
