@@ -88,10 +88,11 @@ wide n p tipped =
 abbrev wideJoin : Book
 wideJoin = join 9 33 (wide 9 33 (λ i. eqb i 0)) (wide 9 33 (λ i. eqb i 8))
 
+-- what the three give
 abbrev all : Book
 all = pile gave (tipped 20) ∷ pile (tipped 5) drew ∷ []
 
--- their files, under the pile numbers 1 and 2
+-- the file of a book of two desks and two piles, under the pile numbers 1 and 2
 abbrev filed : Book → List ℕ
 filed x = file 2 2 suc x
 

@@ -95,12 +95,13 @@ module _ (n p : ℕ) (pileNumbers : ℕ → ℕ) (frame : Frame n p pileNumbers)
         first-with-two = subst (FileJoins (at a)) (sym (joined b c bc)) (written-joins a (join n p b c) a-bc);
       }
 
--- two files that meet none of the join's refusals; so an accepted take leaves a readable book, also where no history leads to it
+-- what is said of one join holds of any two files that meet none of its refusals
 pub file-joins : (a b : List ℕ) → Octets a → Octets b → joinAnswer a b ≡ 0 → FileJoins a b
 file-joins a b oa ob ab =
     as-files (λ x y _. FileJoins x y) a b b oa ob ob ab ab
     (written-joins (desks a) (piles a) (pileNumber a) (frame a b ab oa ob) (bookOf a) (bookOf b) (related a b ab oa ob))
 
+-- so an accepted take leaves a readable book, also where no history leads to it
 pub take-readable : (d : ℕ) (own copy : List ℕ) → Octets own → Octets copy → takeAnswer d own copy ≡ 0 → bookAnswer (afterTake d own copy) ≡ 0
 unfolding afterTake
 take-readable d own copy o o′ e = ap bookAnswer (when-accepted _ _ _ e) ∙ file-joins own copy o o′ (take-meets-none d own copy e) .readable
