@@ -7,3 +7,4 @@ pub mod Saved
 pub mod BookLines
 pub mod Replies
 pub mod Opened
+pub mod Bodies

@@ -4,16 +4,16 @@ use Prim.Native.Nat.{ℕ, _<_}
 use mathlib.Core.Path.{_≡_, ap, sym, subst⁻¹, _∙_}
 use mathlib.Core.Logic.{_≢_}
 use mathlib.Core.List.{List, []}
-use Rattle.rules.specs.Refusals.{refused, reply}
+use Rattle.rules.specs.Refusals.{refused}
 use Rattle.rules.specs.Numbers.{part}
 use Rattle.rules.specs.Pile.{Side}
 use Rattle.rules.specs.Layout.{bodyLength, bodyAt, desks, piles, position, pileOf}
 use Rattle.rules.specs.Book.{bookAnswer, place, fetchAnswer, deskAnswer, bodyPart, bodyStart, tonnageReply, rightsReply}
-use Rattle.rules.specs.Record.{Record, zeroRecord, recordOf, recordTonnageReply, recordRightsReply, fetched, deskRecord, deskStart}
+use Rattle.rules.specs.Record.{Record, zeroRecord, recordOf, fetched, deskRecord, deskStart}
 use Rattle.rules.proofs.Loops.Refusals.{when-accepted, when-refused, reply-refused}
-use Rattle.rules.proofs.File.Found.{found-readable, found-desk, found-place, desk-0-fetch}
+use Rattle.rules.proofs.File.Found.{found-readable, found-place, desk-0-fetch}
 use Rattle.rules.proofs.File.Refused.{body-refused}
-use Rattle.rules.proofs.Record.OfBody.{body-tonnage, body-rights, found-record, found-start}
+use Rattle.rules.proofs.Record.OfBody.{found-record, found-start}
 
 -- a readable book that has a pile at place k
 pub record HasPlace (b : List ℕ) (k : ℕ) : Type 0 where
@@ -42,12 +42,6 @@ module _ (i : ℕ) (b : List ℕ) (number : ℕ) {m : ℕ} (answer : m ≡ deskA
   module _ (z : m ≡ 0) where
     found : deskAnswer i b number ≡ 0
     found = sym answer ∙ z
-
-    pub rights-found : (s : Side) {r : Record} → r ≡ deskRecord i b number → recordRightsReply s i r ≡ rightsReply s i b number
-    unfolding rightsReply reply
-    rights-found s is =
-        rw (is ∙ found-record i b number found) (body-rights b (place b number) (found-readable i b number found) (found-place i b number found) i (found-desk i b number found) s)
-        ∙ sym (when-accepted _ _ _ found)
 
     -- at place k
     module _ {k : ℕ} (at : k ≡ place b number) where
@@ -88,13 +82,6 @@ module _ (b : List ℕ) (number : ℕ) {m : ℕ} (answer : m ≡ deskAnswer 0 b 
   module _ (z : m ≡ 0) where
     fetchable : fetchAnswer b number ≡ 0
     fetchable = sym fetch-is ∙ z
-
-    pub tonnage-found : {r : Record} → r ≡ deskRecord 0 b number → recordTonnageReply r ≡ tonnageReply b number
-    unfolding tonnageReply reply
-    tonnage-found is =
-        let e = sym answer ∙ z in
-        rw (is ∙ found-record 0 b number e) (body-tonnage b (place b number) (found-readable 0 b number e) (found-place 0 b number e))
-        ∙ sym (when-accepted _ _ _ fetchable)
 
     module _ {k : ℕ} (at : k ≡ place b number) where
       pub part-found : {from size : ℕ} → from ≡ position b k → size ≡ bodyLength (desks b) → part from size b ≡ bodyPart b number

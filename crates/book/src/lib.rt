@@ -11,6 +11,7 @@ mod readable;
 mod same;
 mod save;
 
+use audit::tonnage_in;
 use find::find;
 use front::put_bodies;
 use front::put_front;
@@ -154,6 +155,34 @@ pub fn locate(book: &[u8], desk: u8, number: u16) -> Located
     }
 }
 
+// Where a desk's call finds a pile: a refusal's number or 0, and where the pile's body starts.
+pub struct Sought {
+    pub answer: u8,
+    pub start: usize,
+}
+
+// The body of a number, for a desk; refused with 1 to 7, 11 or 10, and then at 0. Every book has desk 0.
+pub fn seek(book: &[u8], desk: u8, number: u16) -> Sought
+    ensures answer { λ r. ⌜ r .answer ≡ deskAnswer desk (now (book .entry)) number ⌝ }
+    ensures start { λ r. ⌜ r .start ≡ deskStart desk (now (book .entry)) number ⌝ }
+{
+    let pile = find(book, desk, number);
+    let refusal = pile.answer;
+    if refusal != 0 {
+        return Sought {
+            answer: refusal,
+            start: 0,
+        };
+    }
+    let n = book[1] as usize;
+    let p = book[2] as usize;
+    let k = pile.place;
+    Sought {
+        answer: 0,
+        start: body_at(n, p, k),
+    }
+}
+
 // The pile of a number, as a record; refused with 1 to 7 or 10, and then all zeros.
 pub fn fetch(book: &[u8], number: u16) -> Outcome
     ensures answer { λ r. ⌜ r .answer ≡ fetchAnswer (now (book .entry)) number ⌝ }
@@ -196,13 +225,14 @@ pub fn store(book: &mut [u8], number: u16, pile: Pile) -> u8
 pub fn tonnage(book: &[u8], number: u16) -> Amount
     ensures { λ r. ⌜ asReply r ≡ tonnageReply (now (book .entry)) number ⌝ }
 {
-    let found = locate(book, 0, number);
+    let found = seek(book, 0, number);
     let refusal = found.answer;
     if refusal != 0 {
         return Amount::Refused(refusal);
     }
-    let pile = found.pile;
-    pile.tonnage()
+    let n = book[1] as usize;
+    let start = found.start;
+    Amount::Tonnes(tonnage_in(book, start, n, n) as u32)
 }
 
 // A desk's draw rights of a pile; refused with 1 to 7, 11 or 10.

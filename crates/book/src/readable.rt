@@ -2,8 +2,8 @@
 use crate::head::contents_sound;
 use crate::head::head_sound;
 use crate::layout::body_at;
-use crate::layout::body_length;
-use crate::load::load;
+use crate::layout::front_length;
+use audit::check_bodies;
 ghost use mathlib.Core.Path.{_≡_};
 ghost use Rattle.rules.specs.Refusals.{first};
 ghost use Rattle.rules.specs.Pile.{pileAnswer};
@@ -11,24 +11,13 @@ ghost use Rattle.rules.specs.Layout.{bodyView, bodyAt};
 ghost use Rattle.rules.specs.Book.{bookAnswer};
 ghost use Rattle.book.specs.Within.{BookSized};
 
-// The first refusal of a body, in file order: each is loaded, and the record's own check is asked.
+// The first refusal of a body, in file order.
 pub(crate) fn bodies_answer(book: &[u8], n: u8, p: usize) -> u8
     requires { ⌜ BookSized n p (now book) ⌝ }
     ensures { λ r. ⌜ r ≡ first p (λ k. pileAnswer n (bodyView n (now (book .entry)) (bodyAt n p k))) ⌝ }
 {
-    let size = body_length(n as usize);
-    let mut at = body_at(n as usize, p, 0);
-    let mut k = 0;
-    while k < p {
-        let pile = load(book, n, at);
-        let answer = pile.check();
-        if answer != 0 {
-            return answer;
-        }
-        at += size;
-        k += 1;
-    }
-    0
+    let desks = n as usize;
+    check_bodies(book, front_length(p), desks, desks, p)
 }
 
 // A book's own answer: head, length and contents, and then its bodies.

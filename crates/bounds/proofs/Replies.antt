@@ -8,15 +8,18 @@ use mathlib.Core.Logic.{_≢_, by-cases}
 use mathlib.Core.List.{List}
 use borrow.Author.Tests.{ltb-true}
 use Rattle.rules.specs.Refusals.{refused, value, reply}
-use Rattle.rules.specs.Pile.{Side, rights}
+use Rattle.rules.specs.Numbers as numbers
+use Rattle.rules.specs.Pile.{Side, Pile, rights}
+use Rattle.rules.specs.Layout.{cellAt, desks, pileOf}
 use Rattle.rules.specs.Book.{place, deskAnswer}
-use Rattle.rules.specs.Record.{Record, recordView, recordAnswer, recordDeskAnswer, recordRightsReply, deskRecord}
+use Rattle.rules.specs.Record.{Record, recordView, recordAnswer, recordDeskAnswer, recordRightsReply, deskStart}
 use Rattle.rules.specs.Bounds.{boundReply, recordBoundReply}
-use Rattle.rules.proofs.Loops.Refusals.{orElse-first, orElse-rest, when-not-done, when-accepted, reply-refused, reply-value}
-use Rattle.rules.proofs.File.Found.{found-readable, found-desk, found-place}
+use Rattle.rules.proofs.Loops.Refusals.{orElse-first, orElse-rest, when-not-done, reply-refused, reply-value}
+use Rattle.rules.proofs.File.Found.{found-desk}
 use Rattle.rules.proofs.Record.Facts.{record-facts}
-use Rattle.rules.proofs.Record.OfBody.{found-record}
-use Rattle.rules.proofs.Record.Bounds.{rights-room, body-bound}
+use Rattle.rules.proofs.Record.Bounds.{rights-room}
+use Rattle.audit.specs.Audits.{rightsIn}
+use Rattle.book.proofs.Bodies.{pile-found, start-found, rights-there}
 use Rattle.bounds.specs.Kept.{kept}
 use Rattle.bounds.proofs.Kept.{kept-bound}
 
@@ -66,9 +69,29 @@ module _ (i : ℕ) (b : List ℕ) (number : ℕ) {m : ℕ} (answer : m ≡ deskA
   unfolding boundReply
   book-refused d s = rw (← answer) (reply-refused m _ d)
 
-  pub bound-found : m ≡ 0 → (s : Side) {r : Record} → r ≡ deskRecord i b number → recordBoundReply s i r ≡ boundReply s i b number
-  unfolding boundReply reply
-  bound-found z s is =
-      let found = sym answer ∙ z in
-      rw (is ∙ found-record i b number found) (body-bound b (place b number) (found-readable i b number found) (found-place i b number found) i (found-desk i b number found) s)
-      ∙ sym (when-accepted _ _ _ found)
+  -- the opening and the rights that were read of the body found
+  module _ (z : m ≡ 0) {start : ℕ} (is : start ≡ deskStart i b number) (s : Side) {floor top x : ℕ} (floor-is : floor ≡ numbers.number 4 b start) (top-is : top ≡ numbers.number 4 b (start + 4))
+      (rights-are : x ≡ rightsIn s (desks b) (desks b) start b i) where
+    found : deskAnswer i b number ≡ 0
+    found = sym answer ∙ z
+
+    abbrev P : Pile
+    P = pileOf b (place b number)
+
+    floor-read : floor ≡ P .floor
+    unfolding pileOf cellAt
+    floor-read = floor-is ∙ ap (numbers.number 4 b) (omega (arith, start-found i b number found is))
+
+    top-read : top ≡ P .top
+    unfolding pileOf cellAt
+    top-read = top-is ∙ ap (numbers.number 4 b) (omega (arith, start-found i b number found is))
+
+    rights-read : x ≡ rights (desks b) P s i
+    rights-read = rights-are ∙ rights-there i b number found is s
+
+    pub room-found : floor + x ≤ top
+    room-found = rw (floor-read, top-read, rights-read) (rights-room (desks b) P (pile-found i b number found is) s i (found-desk i b number found))
+
+    pub bound-found : value (kept s floor top x) ≡ boundReply s i b number
+    unfolding boundReply
+    bound-found = ap value (rw (floor-read, top-read, rights-read) (kept-bound (desks b) P s i)) ∙ reply-value _ _ found

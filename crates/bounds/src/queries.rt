@@ -1,6 +1,8 @@
 // The bound of one desk, asked of a record and of a book. The side is a parameter: 0 for draw and 1 for tip.
 use crate::bound::bound_of;
-use book::locate;
+use audit::rights_in;
+use book::seek;
+use number::get4;
 use pile::Amount;
 use pile::Pile;
 ghost use mathlib.Core.Path.{_≡_};
@@ -29,15 +31,17 @@ pub(crate) fn record_bound(pile: Pile, side: u8, desk: u8) -> Amount
     }
 }
 
-// The record that a desk's call finds replies as the book does.
+// The rights and the opening of the body that a desk's call finds reply as the book does.
 pub(crate) fn book_bound(book: &[u8], side: u8, desk: u8, number: u16) -> Amount
     ensures { λ r. ⌜ asReply r ≡ boundReply (sideOf side) desk (now (book .entry)) number ⌝ }
 {
-    let found = locate(book, desk, number);
+    let found = seek(book, desk, number);
     let refusal = found.answer;
     if refusal != 0 {
         return Amount::Refused(refusal);
     }
-    let pile = found.pile;
-    record_bound(pile, side, desk)
+    let n = book[1] as usize;
+    let start = found.start;
+    let rights = rights_in(book, start, n, n, side, desk) as u32;
+    Amount::Tonnes(bound_of(side, get4(book, start), get4(book, start + 4), rights))
 }

@@ -1,10 +1,9 @@
 // The four acts as values, so that one function enters them all.
-use pile::Outcome;
-use pile::Pile;
+use pile::lines::receiver_wrong;
 ghost use mathlib.Core.Path.{_≡_};
 ghost use Rattle.rules.specs.Layout.{actColumn};
-ghost use Rattle.rules.specs.Record.{recordActAnswer, recordAfterAct};
-ghost use Rattle.pile.specs.View.{asRecord};
+ghost use Rattle.rules.specs.Acts.{side, receiverWrong};
+ghost use Rattle.audit.specs.Account.{sideOf};
 ghost use Rattle.desk.specs.Kinds.{kindOf};
 
 // A give has its receiver.
@@ -15,16 +14,27 @@ pub(crate) enum Kind {
     GiveTip(u8),
 }
 
-// An act on a record, by its kind.
-pub(crate) fn perform(pile: Pile, kind: Kind, desk: u8, amount: u32) -> Outcome
-    ensures answer { λ r. ⌜ r .answer ≡ recordActAnswer desk (kindOf kind) amount (asRecord pile) ⌝ }
-    ensures pile { λ r. ⌜ asRecord (r .pile) ≡ recordAfterAct desk (kindOf kind) amount (asRecord pile) ⌝ }
+// A give's receiver is no desk, or the giver itself.
+pub(crate) fn receiver_wrong_for(n: u8, desk: u8, kind: Kind) -> bool
+    ensures { λ r. ⌜ r ≡ receiverWrong n desk (kindOf kind) ⌝ }
 {
     match kind {
-        Kind::Tip => pile.tip(desk, amount),
-        Kind::Draw => pile.draw(desk, amount),
-        Kind::GiveDraw(receiver) => pile.give_draw(desk, receiver, amount),
-        Kind::GiveTip(receiver) => pile.give_tip(desk, receiver, amount),
+        Kind::Tip => false,
+        Kind::Draw => false,
+        Kind::GiveDraw(receiver) => receiver_wrong(n, desk, receiver),
+        Kind::GiveTip(receiver) => receiver_wrong(n, desk, receiver),
+    }
+}
+
+// The side whose rights the act needs: 0 for draw and 1 for tip.
+pub(crate) fn side_of(kind: Kind) -> u8
+    ensures { λ r. ⌜ sideOf r ≡ side (kindOf kind) ⌝ }
+{
+    match kind {
+        Kind::Tip => 1,
+        Kind::Draw => 0,
+        Kind::GiveDraw(_) => 0,
+        Kind::GiveTip(_) => 1,
     }
 }
 

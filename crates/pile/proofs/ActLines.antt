@@ -1,9 +1,9 @@
 -- The lines of the table for an act on a record, each from what leads to it.
 -- Assumes nothing.
 use Prim.Native.Nat.{ℕ, _+_, _*_, _≤_, _<_}
-use mathlib.Core.Path.{_≡_, ap, sym, subst, _∙_}
+use mathlib.Core.Path.{_≡_, refl, ap, sym, subst, _∙_}
 use mathlib.Core.Logic.{_≢_}
-use mathlib.Core.Bool.{true, false, not}
+use mathlib.Core.Bool.{Bool, true, false, not}
 use lib.ListN.{getD, set}
 use lib.Dec.{ltb, eqb}
 use borrow.Author.Tests.{lt-ltb, le-ltb}
@@ -26,37 +26,14 @@ module _ (r : Record) (i : ℕ) (kind : Kind) (t : ℕ) where
     unfolding recordActAnswer recordDeskAnswer _when_ _orElse_
     answer-11 l = rw (passed, le-ltb i (r .n) l)
 
-    module _ (desk : i < r .n) where
-      pub answer-12 : receiverWrong (r .n) i kind ≡ true → 12 ≡ recordActAnswer i kind t r
-      unfolding recordActAnswer recordDeskAnswer actRefusal _when_ _orElse_
-      answer-12 e = rw (passed, lt-ltb i (r .n) desk, e)
-
-      pub answer-13 : receiverWrong (r .n) i kind ≡ false → eqb t 0 or ltb amountLimit t ≡ true → 13 ≡ recordActAnswer i kind t r
-      unfolding recordActAnswer recordDeskAnswer actRefusal _when_ _orElse_
-      answer-13 receiver e = rw (passed, lt-ltb i (r .n) desk, receiver, e)
-
--- the lines up to the amount's let an act through
-pub record Asked (r : Record) (i : ℕ) (kind : Kind) (t : ℕ) : Type 0 where
-  pub own : recordAnswer r ≡ 0
-  pub desk : i < r .n
-  pub receiver : receiverWrong (r .n) i kind ≡ false
-  pub amount : eqb t 0 or ltb amountLimit t ≡ false
-
-module _ {r : Record} {i : ℕ} {kind : Kind} {t : ℕ} (a : Asked r i kind t) {left : ℕ} (is : left ≡ rights (r .n) (recordView r) (side kind) i) where
-  pub answer-14 : left < t → 14 ≡ recordActAnswer i kind t r
-  unfolding recordActAnswer recordDeskAnswer actRefusal _when_ _orElse_
-  answer-14 l = rw (a .own, lt-ltb i (r .n) (a .desk), a .receiver, a .amount, sym is, lt-ltb left t l)
-
-  module _ (enough : t ≤ left) {x : ℕ} (at : tally (recordView r) i kind ≡ x) where
-    pub answer-15 : tallyLimit < x + t → 15 ≡ recordActAnswer i kind t r
+    -- 12 to 15: a tally is looked at only where the receiver is right
+    pub lines-answer : i < r .n → (wrong : Bool) {left x m : ℕ} → receiverWrong (r .n) i kind ≡ wrong → left ≡ rights (r .n) (recordView r) (side kind) i
+        → (wrong ≡ false → tally (recordView r) i kind ≡ x)
+        → m ≡ 12 when wrong orElse 13 when (eqb t 0 or ltb amountLimit t) orElse 14 when ltb left t orElse 15 when ltb tallyLimit (x + t)
+        → m ≡ recordActAnswer i kind t r
     unfolding recordActAnswer recordDeskAnswer actRefusal _when_ _orElse_
-    answer-15 l =
-        rw (a .own, lt-ltb i (r .n) (a .desk), a .receiver, a .amount, sym is, le-ltb left t enough, at, lt-ltb tallyLimit (x + t) l)
-
-    pub answer-0 : x + t ≤ tallyLimit → 0 ≡ recordActAnswer i kind t r
-    unfolding recordActAnswer recordDeskAnswer actRefusal _when_ _orElse_
-    answer-0 l =
-        rw (a .own, lt-ltb i (r .n) (a .desk), a .receiver, a .amount, sym is, le-ltb left t enough, at, le-ltb tallyLimit (x + t) l)
+    lines-answer desk true receiver left at e = e ∙ rw (passed, lt-ltb i (r .n) desk, receiver) refl
+    lines-answer desk false receiver left at e = e ∙ rw (passed, lt-ltb i (r .n) desk, receiver, sym left, at refl) refl
 
 -- the record with so much more at a column of a desk's row
 abbrev pub more : Record → ℕ → ℕ → ℕ → Record

@@ -13,7 +13,7 @@ use borrow.Author.Tests.{eqb-true, eqb-false}
 use Rattle.rules.specs.Loops.{sum}
 use Rattle.rules.proofs.Loops.Logic.{decided}
 use Rattle.rules.proofs.Loops.Sums.{sum-cong, sum-add, sum-at}
-use Rattle.pile.proofs.Arrays.{sum-next}
+use Rattle.rules.proofs.Loops.Arrays.{sum-next}
 
 -- what row m adds to the credit of desk k
 abbrev pub added : (ℕ → ℕ → ℕ) → (ℕ → ℕ) → ℕ → ℕ → ℕ

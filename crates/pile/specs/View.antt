@@ -1,6 +1,6 @@
 -- The struct as the record of document 01, and what the functions inside the crate promise of it.
 -- Assumes nothing.
-use Prim.Native.Nat.{ℕ, zero, suc, _<_}
+use Prim.Native.Nat.{ℕ, _<_}
 use mathlib.Core.Path.{_≡_}
 use mathlib.Core.Bool.{Bool, false}
 use mathlib.Core.List.{List}
@@ -10,6 +10,7 @@ use Rattle.rules.specs.Acts.{Kind, side, receiverWrong}
 use Rattle.rules.specs.Layout.{actColumn}
 use Rattle.rules.specs.Record.{Record, recordView, recordAnswer}
 use Rattle.pile.specs.declared.Pile.{Pile}
+pub use Rattle.rules.specs.Pile.{sideOf}
 
 abbrev pub asRecord : Pile → Record
 asRecord p = record { n = p .n; floor = p .floor; top = p .top; shares = p .shares; tallies = p .tallies }
@@ -24,10 +25,6 @@ pub record Audited (r : Record) (answer weight : ℕ) (left : Side → List ℕ)
 abbrev pub bySide : List ℕ → List ℕ → Side → List ℕ
 bySide a b draw = a
 bySide a b tip = b
-
-abbrev pub sideOf : ℕ → Side
-sideOf zero = draw
-sideOf (suc n) = tip
 
 -- The arguments of the function that enters all four acts are those of an act of this kind: the side whose rights it needs, whether its
 -- receiver is wrong, and, where nothing before it refuses the act, the column of the tally that it adds to.

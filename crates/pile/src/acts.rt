@@ -4,14 +4,13 @@ use crate::PLACES;
 use crate::Pile;
 use crate::ROW;
 use crate::check::audit_of;
-use crate::parts::wide;
+use crate::lines::act_refusal;
+use crate::lines::receiver_wrong;
 use crate::queries::rights_at;
 ghost use mathlib.Core.Path.{_≡_};
-ghost use mathlib.Core.Bool.{false, not};
+ghost use mathlib.Core.Bool.{false};
 ghost use Prim.Native.Nat.{_+_, _*_, _≤_, _<_};
 ghost use lib.ListN.{getD};
-ghost use lib.Dec.{ltb, eqb};
-ghost use Rattle.rules.specs.Loops.{_or_};
 ghost use Rattle.rules.specs.Pile.{tallyLimit};
 ghost use Rattle.rules.specs.Acts.{Kind, spend, give};
 ghost use Rattle.rules.specs.Layout.{column};
@@ -32,24 +31,14 @@ pub(crate) fn act_answer(p: Pile, side: u8, desk: u8, wrong: bool, column: usize
     if p.n <= desk {
         return 11;
     }
-    if wrong {
-        return 12;
-    }
-    if amount == 0 {
-        return 13;
-    }
-    if Pile::AMOUNT_LIMIT < amount {
-        return 13;
-    }
     let i = desk as usize;
-    if rights_at(audit, side, i) < wide(amount) {
-        return 14;
-    }
     let tallies = p.tallies;
-    if Pile::TALLY_LIMIT < wide(tallies[i * ROW + column]) + wide(amount) {
-        return 15;
-    }
-    0
+    act_refusal(
+        wrong,
+        amount,
+        rights_at(audit, side, i),
+        tallies[i * ROW + column],
+    )
 }
 
 // The act itself: its answer, and the record after it, unaltered where it is refused.
@@ -79,16 +68,6 @@ pub(crate) fn spend_side(p: Pile, side: u8, desk: u8, amount: u32) -> Outcome
         return enter(p, side, desk, false, 1, amount);
     }
     enter(p, side, desk, false, 0, amount)
-}
-
-// The receiver is no desk, or the giver itself.
-pub(crate) fn receiver_wrong(n: u8, desk: u8, receiver: u8) -> bool
-    ensures { λ r. ⌜ r ≡ not (ltb receiver n) or eqb receiver desk ⌝ }
-{
-    if n <= receiver {
-        return true;
-    }
-    receiver == desk
 }
 
 // The column of a side's gives to a receiver, where there is one.

@@ -2,6 +2,7 @@
 mod account;
 mod acts;
 mod check;
+pub mod lines;
 mod parts;
 mod queries;
 

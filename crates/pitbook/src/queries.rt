@@ -1,7 +1,7 @@
 // What is asked of a pile: rights, tonnage, what a desk can be sure of, and where its body lies. The result goes into numbers that the caller lends.
 use book::body_size;
 use book::draw_rights;
-use book::locate;
+use book::seek;
 use book::tip_rights;
 use book::tonnage;
 use bounds::least;
@@ -80,7 +80,7 @@ pub extern "C" fn pit_body(book: &[u8], pile: u16, start: &mut usize, length: &m
     ensures start { λ _. ⌜ now (start .exit) ≡ startOr (now (book .entry)) pile (now (start .entry)) ⌝ }
     ensures length { λ _. ⌜ now (length .exit) ≡ lengthOr (now (book .entry)) pile (now (length .entry)) ⌝ }
 {
-    let found = locate(book, 0, pile);
+    let found = seek(book, 0, pile);
     let refusal = found.answer;
     if refusal != 0 {
         return refusal;

@@ -43,8 +43,10 @@ pub fn compare(mine: &[u8], copy: &[u8]) -> Comparison
     let mut copy_above = true;
     let mut c = 0;
     while c < places {
-        let x = get4(mine, c * 4);
-        let y = get4(copy, c * 4);
+        // Of a part of 4 bytes a number is read without a test, and the compiler compares several at once.
+        let at = c * 4;
+        let x = get4(&mine[at..at + 4], 0);
+        let y = get4(&copy[at..at + 4], 0);
         if x < y {
             mine_above = false;
         }

@@ -9,4 +9,5 @@ pub mod Ranges
 pub mod Pieces
 pub mod Parts
 pub mod Sets
+pub mod Arrays
 pub mod Partly

@@ -1,7 +1,7 @@
 -- One stockpile of n desks: its opening, its tallies, and the rights that follow from them ("Rights" of document 01).
 -- It is the Bounded Counter of source document 000 (Figure 1) kept twice: the side `draw` guards the floor, the side `tip` the top.
 -- Assumes nothing.
-use Prim.Native.Nat.{ℕ, _+_, _-_}
+use Prim.Native.Nat.{ℕ, zero, suc, _+_, _-_}
 use mathlib.Core.Bool.{Bool, not}
 use lib.Dec.{leb, eqb}
 use Rattle.rules.specs.Loops.{_and_, sum, every}
@@ -13,6 +13,11 @@ pub data Side : Type 0 where
 abbrev pub other : Side → Side
 other draw = tip
 other tip = draw
+
+-- a side by its number: 0 for draw and 1 for tip
+abbrev pub sideOf : ℕ → Side
+sideOf zero = draw
+sideOf (suc n) = tip
 
 unfoldable pub bothSides : (Side → Bool) → Bool
 bothSides t = t draw and t tip

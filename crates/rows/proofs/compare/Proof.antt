@@ -1,13 +1,17 @@
 -- `compare` asks for one length of a row, goes over the places once, and keeps whether each row has been at least the other so far.
 -- Assumes nothing.
-use Prim.Native.Nat.{_-_, _≤_}
+use Prim.Native.Nat.{ℕ, _+_, _-_, _*_, _≤_}
+use native.Mathlib.Nat.{add-zero}
 use native.Mathlib.Omega.{arith}
-use mathlib.Core.Path.{_≡_, refl, ap₂, sym, _∙_}
+use mathlib.Core.Path.{_≡_, refl, ap, ap₂, sym, _∙_}
 use mathlib.Core.Logic.{⊎-elim}
+use mathlib.Core.List.{List}
 use borrow.Author.Needs.{needs}
 use Rattle.rules.specs.Loops.{every}
+use Rattle.rules.specs.Numbers.{number, part}
 use Rattle.rules.specs.Rows.{atLeast, numbersOf, places, compared}
 use Rattle.rules.proofs.Loops.Logic.{holds, fails}
+use Rattle.rules.proofs.Bytes.Numbers.{number-part}
 use Rattle.rules.proofs.Take.RowOrder.{orderBy, at-least-fails, at-least-stays}
 use Rattle.rules.proofs.Take.Compared.{no-row, lengths-differ, by-tests}
 use Rattle.rows.proofs.compare.Statement.{statement}
@@ -36,14 +40,41 @@ loop-holds : tie.Need-loop-holds Inv-loop μ-loop
 unfolding atLeast every
 loop-holds c = (search needs, refl, refl)
 
-mul-get4 : tie.Need-mul-get4 Inv-loop μ-loop
-mul-get4 c = search needs
+-- a number read from a part of 4 bytes
+read : (row : List ℕ) (at x : ℕ) → x ≡ number 4 (part at (at + 4 - at) row) 0 → x ≡ number 4 row at
+read row at x e =
+    let size : at + 4 - at ≡ 4 = omega arith in
+    rw size at e ∙ number-part 4 row at 4 0 (omega arith) ∙ ap (number 4 row) (add-zero at)
+
+mul-at : tie.Need-mul-at Inv-loop μ-loop
+mul-at c = search needs
+
+add-get4 : tie.Need-add-get4 Inv-loop μ-loop
+add-get4 c = search needs
+
+sub-get4 : tie.Need-sub-get4 Inv-loop μ-loop
+sub-get4 c = search needs
+
+part-get4-start : tie.Need-part-get4-start Inv-loop μ-loop
+part-get4-start c = search needs
+
+part-get4-end : tie.Need-part-get4-end Inv-loop μ-loop
+part-get4-end c = search needs
 
 get4-requires : tie.Need-get4-requires Inv-loop μ-loop
 get4-requires c κs = search needs
 
-mul-get4-2 : tie.Need-mul-get4-2 Inv-loop μ-loop
-mul-get4-2 c = search needs
+add-get4-2 : tie.Need-add-get4-2 Inv-loop μ-loop
+add-get4-2 c = search needs
+
+sub-get4-2 : tie.Need-sub-get4-2 Inv-loop μ-loop
+sub-get4-2 c = search needs
+
+part-get4-start-2 : tie.Need-part-get4-start-2 Inv-loop μ-loop
+part-get4-start-2 c = search needs
+
+part-get4-end-2 : tie.Need-part-get4-end-2 Inv-loop μ-loop
+part-get4-end-2 c = search needs
 
 get4-requires-2 : tie.Need-get4-requires-2 Inv-loop μ-loop
 get4-requires-2 c κs = search needs
@@ -56,9 +87,13 @@ loop-less c = search needs
 
 loop-again : tie.Need-loop-again Inv-loop μ-loop
 loop-again c =
-    let x-is = c .before .before .before .get4 .ensures in
-    let y-is = c .before .before .get42 .ensures in
-    let loop = c .before .before .before .before .before .loop in (
+    let y = c .before .before in
+    let x = y .before .before in
+    let turn = x .before .before in
+    let rows = start (turn .before .before .before .before) .args in
+    let loop = turn .before .loop in
+    let x-is = read (rows .mine .now) (loop .c * 4) _ (x .get4 .ensures) in
+    let y-is = read (rows .copy .now) (loop .c * 4) _ (y .get42 .ensures) in (
       search needs,
       ⊎-elim (λ w. w .1 ∙ sym (at-least-fails _ _ _ x-is y-is (w .0 .taken)))
           (λ w. w .1 ∙ loop .inv .1 ∙ sym (at-least-stays _ _ _ x-is y-is (w .0 .left))) (c .before .if3 .came),
@@ -98,9 +133,16 @@ compare-spec =
     returns
     returns-2
     loop-holds
-    mul-get4
+    mul-at
+    add-get4
+    sub-get4
+    part-get4-start
+    part-get4-end
     get4-requires
-    mul-get4-2
+    add-get4-2
+    sub-get4-2
+    part-get4-start-2
+    part-get4-end-2
     get4-requires-2
     add-c
     loop-less

@@ -40,7 +40,8 @@ add-result-2 c = let a = c .before .args in omega (arith, row-most (a .n) (a .de
 
 returns : tie.Need-returns
 unfolding cellAt rowLength
-returns c = omega (arith, c .column .ensures)
+returns c =
+    let a = c .before .args in (omega (arith, c .column .ensures), omega (arith, row-most (a .n) (a .desk) (omega arith) (omega arith)))
 
 pub cell-at-spec : {M : Type 1} → statement M
 cell-at-spec =

@@ -15,7 +15,8 @@ use Rattle.rules.proofs.Loops.Logic.{holds, fails, and-left-fails, and-right-fa
 use Rattle.rules.proofs.Loops.Every.{every-at, every-next, every-stops}
 use Rattle.pile.specs.Account.{shareOf, earnedBy, spentBy, givenBy, rowSound, Accounted}
 use Rattle.rules.specs.Record.{rowPlaces}
-use Rattle.pile.proofs.Arrays.{sum-past, set-next, set-at-most}
+use Rattle.rules.proofs.Loops.Arrays.{set-next, set-at-most}
+use Rattle.pile.proofs.Arrays.{sum-past}
 use Rattle.pile.proofs.Credits.{added, credit-step, credit-all}
 use borrow.Author.Needs.{needs}
 use Rattle.pile.proofs.account.account_of.Statement.{statement}

@@ -10,7 +10,7 @@ use lib.Dec.{leb}
 use borrow.Author.Tests.{le-leb, lt-leb}
 use Rattle.rules.specs.Loops.{sum, every}
 use Rattle.rules.proofs.Loops.Every.{every-next, every-stops}
-use Rattle.pile.proofs.Arrays.{sum-next, set-next}
+use Rattle.rules.proofs.Loops.Arrays.{sum-next, set-next}
 use borrow.Author.Needs.{needs}
 use Rattle.pile.proofs.account.balance_of.Statement.{statement}
 use Rattle.pile.proofs.account.balance_of.Tie as tie

@@ -17,7 +17,8 @@ use Rattle.rules.specs.Loops.{sum, every}
 use Rattle.rules.specs.Pile.{tallyLimit}
 use Rattle.rules.proofs.Loops.Logic.{and-left-holds, and-left-fails}
 use Rattle.rules.proofs.Loops.Every.{every-at, every-stops}
-use Rattle.pile.proofs.Arrays.{sum-next, every-more, set-next}
+use Rattle.rules.proofs.Loops.Arrays.{sum-next, set-next}
+use Rattle.pile.proofs.Arrays.{every-more}
 
 abbrev Inv-loop : tie.InvT-loop
 Inv-loop tallies at i credit₀ made₀ within₀ j₀ credit made within j =

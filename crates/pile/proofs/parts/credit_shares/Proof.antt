@@ -6,7 +6,7 @@ use native.Mathlib.Omega.{arith}
 use mathlib.Core.Path.{_≡_, refl, sym, ap₂, _∙_}
 use lib.ListN.{length, getD, getD-replicate}
 use Rattle.rules.specs.Loops.{sum}
-use Rattle.pile.proofs.Arrays.{sum-next, set-next, set-at-most}
+use Rattle.rules.proofs.Loops.Arrays.{sum-next, set-next, set-at-most}
 use borrow.Author.Needs.{needs}
 use Rattle.pile.proofs.parts.credit_shares.Statement.{statement}
 use Rattle.pile.proofs.parts.credit_shares.Tie as tie

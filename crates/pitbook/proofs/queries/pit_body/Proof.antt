@@ -1,4 +1,4 @@
--- `pit_body` tells where the body starts that `locate` has found, and the length of every body of the book.
+-- `pit_body` tells where the body starts that `seek` has found, and the length of every body of the book.
 -- Assumes nothing.
 use mathlib.Core.Path.{_≡_, sym, _∙_}
 use borrow.Author.Needs.{needs}
@@ -15,18 +15,18 @@ abbrev start : tie.Else1 → tie.Start
 start c = c .before .before .before
 
 located : (c : tie.Else1) → deskAnswer 0 (start c .args .book .now) (start c .args .pile) ≡ 0
-located c = sym (c .before .locate .ensures .0) ∙ c .if1 .left
+located c = sym (c .before .seek .ensures .0) ∙ c .if1 .left
 
 abbrev facts : (c : tie.Else1) → BookFacts (start c .args .book .now)
 facts c = book-facts _ (found-readable 0 _ _ (located c))
 
-locate-requires : tie.Need-locate-requires
-locate-requires c κs = search needs
+seek-requires : tie.Need-seek-requires
+seek-requires c κs = search needs
 
 returns : tie.Need-returns
 returns c =
     let a = c .before .before .before .args in
-    told-nothing _ _ (c .before .locate .ensures .0) (c .if1 .taken) (a .start .now) (a .length .now)
+    told-nothing _ _ (c .before .seek .ensures .0) (c .if1 .taken) (a .start .now) (a .length .now)
 
 shared-slice-read-body-size : tie.Need-shared-slice-read-body-size
 shared-slice-read-body-size c = search (needs, facts (c .before) .long)
@@ -38,9 +38,9 @@ returns-2 : tie.Need-returns-2
 returns-2 c =
     let one = c .before .before in
     let a = start one .args in
-    let l = one .before .locate .ensures in
+    let l = one .before .seek .ensures in
     let s = facts one .sizes in
-    told-body _ _ (l .0) (one .if1 .left) (a .start .now) (a .length .now) (l .1 .0) (c .body-size .ensures ∙ size-in-range _ (s .desks-least) (s .desks-most))
+    told-body _ _ (l .0) (one .if1 .left) (a .start .now) (a .length .now) (l .1) (c .body-size .ensures ∙ size-in-range _ (s .desks-least) (s .desks-most))
 
 pub pit-body-spec : {M : Type 1} → statement M
-pit-body-spec = tie.close (tie.spec locate-requires returns shared-slice-read-body-size body-size-requires returns-2)
+pit-body-spec = tie.close (tie.spec seek-requires returns shared-slice-read-body-size body-size-requires returns-2)

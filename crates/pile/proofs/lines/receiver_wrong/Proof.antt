@@ -1,7 +1,7 @@
 -- `receiver_wrong` is the two tests in turn.
 -- Assumes nothing.
-use Rattle.pile.proofs.acts.receiver_wrong.Statement.{statement}
-use Rattle.pile.proofs.acts.receiver_wrong.Tie as tie
+use Rattle.pile.proofs.lines.receiver_wrong.Statement.{statement}
+use Rattle.pile.proofs.lines.receiver_wrong.Tie as tie
 use mathlib.Core.Path.{sym, ap}
 use mathlib.Core.Bool.{not}
 use borrow.Author.Tests.{lt-ltb, le-ltb}

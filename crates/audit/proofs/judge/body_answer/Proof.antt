@@ -1,0 +1,167 @@
+-- `body_answer` adds up the shares and the rows, and then goes through the lines of the table.
+-- Assumes nothing.
+use Prim.Native.Nat.{ℕ, _+_, _-_, _*_, _≤_}
+use native.Mathlib.Omega.{arith}
+use mathlib.Core.Path.{_≡_, ap, ap₂, sym, _∙_}
+use lib.ListN.{length}
+use lib.Dec.{leb, eqb}
+use Rattle.rules.specs.Loops.{_and_}
+use Rattle.rules.specs.Numbers.{number}
+use Rattle.rules.specs.Pile.{Pile, draw, tip, topLimit, openingLawful}
+use Rattle.rules.specs.Layout.{bodyView, rowLength, cellAt}
+use Rattle.audit.proofs.Places.{opening-within}
+use Rattle.audit.proofs.Passing.{opened, shares-sum, empty-fits}
+use borrow.Author.Needs.{needs}
+use Rattle.audit.proofs.judge.body_answer.Statement.{statement}
+use Rattle.audit.proofs.judge.body_answer.Tie as tie
+
+-- back through the calls
+abbrev start : tie.After-slice-known4 → tie.Start
+start c = c .before .before .before .before .before
+
+abbrev draws-in : tie.After-slice-known5 → tie.After-add-run
+draws-in c = c .before .before
+
+abbrev tips-in : tie.After-slice-known6 → tie.After-add-run2
+tips-in c = c .before .before
+
+abbrev opening : tie.After-slice-known6 → tie.After-slice-known5
+opening c = tips-in c .before .before
+
+abbrev at-first : tie.After-slice-known6 → tie.Start
+at-first c = start (draws-in (opening c) .before .before)
+
+abbrev rows : tie.After-slice-known10 → tie.After-read-rows-of
+rows c = c .before .before .before .before .before .before .before .before
+
+abbrev shares-in : tie.After-slice-known10 → tie.After-slice-known6
+shares-in c = rows c .before .before .before .before .before
+
+abbrev all-in : tie.After-balance-of → tie.After-slice-known10
+all-in c = c .before .before .before .before .before
+
+abbrev balanced : tie.After-opening-sound → tie.After-balance-of
+balanced c = c .before .before .before
+
+abbrev entry : tie.After-opening-sound → tie.Start
+entry c = at-first (shares-in (all-in (balanced c)))
+
+abbrev pile : tie.Start → Pile
+pile c = bodyView (c .args .w) (c .args .bytes .now) (c .args .at)
+
+desks : (c : tie.Start) → c .args .n ≤ 8
+desks c = omega (arith, c .pre .0 .used, c .pre .0 .desks-most)
+
+-- the opening lies within the bytes
+within : (c : tie.Start) → c .args .at + 8 * (c .args .w + 1) ≤ length (c .args .bytes .now)
+unfolding rowLength
+within c = opening-within (c .pre .0)
+
+-- 5
+opening-is : (c : tie.After-opening-sound) → c .opening-sound .result ≡ openingLawful (entry c .args .n) (pile (entry c))
+unfolding openingLawful cellAt
+opening-is c =
+    let a = entry c .args in
+    let shares = shares-in (all-in (balanced c)) in
+    let floor : c .before .before .word .result ≡ pile (entry c) .floor = c .before .before .word .ensures .0 ∙ ap (number 4 (a .bytes .now)) (omega arith) in
+    let top : c .before .word2 .result ≡ pile (entry c) .top = c .before .word2 .ensures .0 ∙ ap (number 4 (a .bytes .now)) (omega arith) in
+    let d = shares-sum (a .w) (a .n) (a .at) (a .bytes .now) draw (omega arith) (draws-in (opening shares) .add-run .ensures .0 .0) in
+    let t = shares-sum (a .w) (a .n) (a .at) (a .bytes .now) tip (omega arith) (tips-in shares .add-run2 .ensures .0 .0) in
+    c .opening-sound .ensures
+    ∙ ap₂ (λ (x y : ℕ). leb x y and leb y topLimit and eqb (draws-in (opening shares) .add-run .result + tips-in shares .add-run2 .result) (y - x)) floor top
+    ∙ ap₂ (λ (x y : ℕ). leb (pile (entry c) .floor) (pile (entry c) .top) and leb (pile (entry c) .top) topLimit and eqb (x + y) (pile (entry c) .top - pile (entry c) .floor)) d t
+
+add-add-run : tie.Need-add-add-run
+add-add-run c = search (needs, within (start c))
+
+add-run-requires : tie.Need-add-run-requires
+add-run-requires c κs = let f = start (c .before) in empty-fits (f .pre .1 .0 .0) (desks f) (omega (arith, within f, f .pre .0 .used))
+
+add-add-run-2 : tie.Need-add-add-run-2
+add-add-run-2 c = search (needs, within (start (draws-in c .before .before)))
+
+mul-add-run : tie.Need-mul-add-run
+mul-add-run c = search needs
+
+add-add-run-3 : tie.Need-add-add-run-3
+add-add-run-3 c = search (needs, within (start (draws-in c .before .before)))
+
+add-run-requires-2 : tie.Need-add-run-requires-2
+add-run-requires-2 c κs = let f = start (draws-in (c .before) .before .before) in empty-fits (f .pre .1 .1 .0) (desks f) (omega (arith, within f, f .pre .0 .used))
+
+add-shares : tie.Need-add-shares
+add-shares c = omega (arith, draws-in (opening c) .add-run .ensures .0 .1, tips-in c .add-run2 .ensures .0 .1)
+
+read-rows-of-requires : tie.Need-read-rows-of-requires
+read-rows-of-requires c κs =
+    let shares = c .before .before .before .before in
+    let f = at-first shares in
+    let a = f .args in (
+      f .pre .0,
+      (
+        opened (a .w) (a .n) (a .at) (a .bytes .now) draw (f .pre .1 .0 .0) (f .pre .1 .0 .1) (omega arith) (draws-in (opening shares) .add-run .ensures .1) (desks f),
+        opened (a .w) (a .n) (a .at) (a .bytes .now) tip (f .pre .1 .1 .0) (f .pre .1 .1 .1) (omega arith) (tips-in shares .add-run2 .ensures .1) (desks f),
+      ),
+    )
+
+balance-of-requires : tie.Need-balance-of-requires
+balance-of-requires c κs =
+    let all = c .before .before .before .before in (at-first (shares-in all) .pre .0, rows all .read-rows-of .ensures .1)
+
+word-requires : tie.Need-word-requires
+word-requires c κs = search (needs, within (at-first (shares-in (all-in c))))
+
+add-word : tie.Need-add-word
+add-word c =
+    let shares = shares-in (all-in (c .before)) in
+    let known = draws-in (opening shares) .before .before .before .before .before .before in search (needs, within (at-first shares), known .shared-slice-known .given)
+
+word-requires-2 : tie.Need-word-requires-2
+word-requires-2 c κs = search (needs, within (at-first (shares-in (all-in (c .before)))))
+
+opening-sound-requires : tie.Need-opening-sound-requires
+opening-sound-requires c κs = search needs
+
+verdict-requires : tie.Need-verdict-requires
+verdict-requires c κs =
+    let all = balanced c in
+    (entry c .pre .0, (opening-is c, (rows (all-in all) .read-rows-of .ensures .0, all .balance-of .ensures)))
+
+same-length : tie.Need-same-length
+same-length c = let all = all-in (balanced (c .before)) in rows all .read-rows-of .ensures .1 .0 .totals-long ∙ sym (ap length (at-first (shares-in all) .pre .1 .0 .0))
+
+same-length-2 : tie.Need-same-length-2
+same-length-2 c = search needs
+
+same-length-3 : tie.Need-same-length-3
+same-length-3 c = let all = all-in (balanced (c .before)) in rows all .read-rows-of .ensures .1 .1 .totals-long ∙ sym (ap length (at-first (shares-in all) .pre .1 .1 .0))
+
+same-length-4 : tie.Need-same-length-4
+same-length-4 c = search needs
+
+returns : tie.Need-returns
+returns c = (c .verdict .ensures, rows (all-in (balanced (c .before))) .read-rows-of .ensures .1)
+
+pub body-answer-spec : {M : Type 1} → statement M
+body-answer-spec =
+    tie.close
+    (tie.spec
+    add-add-run
+    add-run-requires
+    add-add-run-2
+    mul-add-run
+    add-add-run-3
+    add-run-requires-2
+    add-shares
+    read-rows-of-requires
+    balance-of-requires
+    word-requires
+    add-word
+    word-requires-2
+    opening-sound-requires
+    verdict-requires
+    same-length
+    same-length-2
+    same-length-3
+    same-length-4
+    returns)

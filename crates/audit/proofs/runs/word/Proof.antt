@@ -1,0 +1,40 @@
+-- `word` reads the number of the 4 bytes that it takes out.
+-- Assumes nothing.
+use Prim.Native.Nat.{_+_, _-_}
+use native.Mathlib.Nat.{add-zero}
+use native.Mathlib.Omega.{arith}
+use mathlib.Core.Path.{_≡_, ap, _∙_}
+use Rattle.rules.specs.Numbers.{number}
+use Rattle.rules.proofs.Bytes.Numbers.{number-part}
+use borrow.Author.Needs.{needs}
+use Rattle.audit.proofs.runs.word.Statement.{statement}
+use Rattle.audit.proofs.runs.word.Tie as tie
+
+add-get4 : tie.Need-add-get4
+add-get4 c = search needs
+
+sub-get4 : tie.Need-sub-get4
+sub-get4 c = search needs
+
+part-get4-start : tie.Need-part-get4-start
+part-get4-start c = search needs
+
+part-get4-end : tie.Need-part-get4-end
+part-get4-end c = search needs
+
+get4-requires : tie.Need-get4-requires
+get4-requires c κs = search needs
+
+cast-result : tie.Need-cast-result
+cast-result c = search needs
+
+returns : tie.Need-returns
+returns c =
+    let a = c .before .before .before .args in
+    let size : a .at + 4 - a .at ≡ 4 = omega arith in
+    (rw size at (c .get4 .ensures) ∙ number-part 4 (a .bytes .now) (a .at) 4 0 (omega arith) ∙ ap (number 4 (a .bytes .now)) (add-zero (a .at)), search needs)
+
+pub word-spec : {M : Type 1} → statement M
+word-spec =
+    tie.close
+    (tie.spec add-get4 sub-get4 part-get4-start part-get4-end get4-requires cast-result returns)

@@ -1,0 +1,115 @@
+// The account of a pile's rights, on the bytes of its body: what a book's check and a record's check go by. A body has places for w desks, of which n
+// are used: a book's body has n, and a record is laid out as a body of 8.
+mod judge;
+mod rights;
+mod runs;
+mod tallies;
+
+use judge::body_answer;
+use rights::body_there;
+use rights::left_of;
+use rights::less;
+use rights::sum_apart;
+use runs::word;
+ghost use mathlib.Core.Path.{_≡_};
+ghost use Rattle.audit.specs.Account.{sideOf};
+ghost use Rattle.audit.specs.Audits.{shapeAnswer, bodiesAnswer, rightsIn, tonnageIn};
+
+// The most desks of a body, and the most bodies.
+pub(crate) const PLACES: usize = 8;
+
+const BODIES: usize = 32;
+
+// 2 for sizes, 3 where there are more or less bytes than p bodies from a position on.
+fn shape_answer(length: usize, from: usize, w: usize, n: usize, p: usize) -> u8
+    ensures { λ r. ⌜ r ≡ shapeAnswer w n p from length ⌝ }
+{
+    if n < 1 {
+        return 2;
+    }
+    if w < n {
+        return 2;
+    }
+    if PLACES < w {
+        return 2;
+    }
+    if BODIES < p {
+        return 2;
+    }
+    if length < from {
+        return 3;
+    }
+    if length - from != p * (8 * ((w + 1) * (w + 1))) {
+        return 3;
+    }
+    0
+}
+
+// One pass over p bodies from a position on, with nothing behind them: refused with 2 for sizes, 3 for the length, or as the first body that is, with 5, 6
+// or 7.
+pub fn check_bodies(bytes: &[u8], from: usize, w: usize, n: usize, p: usize) -> u8
+    ensures { λ r. ⌜ r ≡ bodiesAnswer w n p from (now (bytes .entry)) ⌝ }
+{
+    let shape = shape_answer(bytes.len(), from, w, n, p);
+    if shape != 0 {
+        return shape;
+    }
+    let size = 8 * ((w + 1) * (w + 1));
+    let mut at = from;
+    let mut k = 0;
+    while k < p {
+        let mut draws = [0u64; PLACES];
+        let mut draw_given = [0u64; PLACES];
+        let mut tips = [0u64; PLACES];
+        let mut tip_given = [0u64; PLACES];
+        let answer = body_answer(
+            bytes,
+            at,
+            w,
+            n,
+            &mut draws,
+            &mut draw_given,
+            &mut tips,
+            &mut tip_given,
+        );
+        if answer != 0 {
+            return answer;
+        }
+        at += size;
+        k += 1;
+    }
+    0
+}
+
+// A desk's rights of a side in the body at a position, 0 for draw and 1 for tip; 0 where there is no such body or desk.
+pub fn rights_in(bytes: &[u8], at: usize, w: usize, n: usize, side: u8, desk: u8) -> u64
+    ensures { λ r. ⌜ r ≡ rightsIn (sideOf side) w n at (now (bytes .entry)) desk ⌝ }
+{
+    if !body_there(bytes.len(), at, w, n) {
+        return 0;
+    }
+    let i = desk as usize;
+    if n <= i {
+        return 0;
+    }
+    if side == 0 {
+        return left_of(bytes, at, w, n, i, 0);
+    }
+    left_of(bytes, at, w, n, i, 1)
+}
+
+// The tonnage of the body at a position; 0 where there is no such body.
+pub fn tonnage_in(bytes: &[u8], at: usize, w: usize, n: usize) -> u64
+    ensures { λ r. ⌜ r ≡ tonnageIn w n at (now (bytes .entry)) ⌝ }
+{
+    if !body_there(bytes.len(), at, w, n) {
+        return 0;
+    }
+    let row = 8 * (w + 1);
+    let tipped = sum_apart(bytes, at + row, row, n);
+    let drawn = sum_apart(bytes, at + row + 4, row, n);
+    less(
+        word(bytes, at) + sum_apart(bytes, at + 8, 4, n) + tipped,
+        drawn,
+    )
+}
