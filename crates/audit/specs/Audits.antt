@@ -10,7 +10,7 @@ use Rattle.rules.specs.Refusals.{_when_, _orElse_, first}
 use Rattle.rules.specs.Pile.{Side, Pile, rights, tonnage, pileAnswer}
 use Rattle.rules.specs.Layout.{deskLimit, pileLimit, bodyLength, bodyView}
 
--- Body k of those that start at a position. A body has places for w desks, of which n are used: w is n in a book, and 8 in a record.
+-- Body k of those that start at a position. A body has places for w desks, of which n are used: all of them in a book.
 abbrev pub bodyOf : ℕ → List ℕ → ℕ → ℕ → Pile
 bodyOf w b from k = bodyView w b (from + k * bodyLength w)
 

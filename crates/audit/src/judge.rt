@@ -5,15 +5,13 @@ use crate::runs::word;
 use crate::tallies::read_rows_of;
 use crate::tallies::rows_within;
 ghost use mathlib.Core.Path.{_≡_};
-ghost use mathlib.Core.Bool.{true};
-ghost use Prim.Native.Nat.{ℕ, _+_, _-_, _≤_, _<_};
-ghost use lib.ListN.{replicate, getD};
+ghost use Prim.Native.Nat.{_+_, _-_};
+ghost use lib.ListN.{replicate};
 ghost use lib.Dec.{leb, eqb};
-ghost use Rattle.rules.specs.Loops.{_and_, sum, list};
-ghost use Rattle.rules.specs.Pile.{draw, tip, topLimit, credit, rights, lawful, openingLawful, pileAnswer};
-ghost use Rattle.rules.specs.Layout.{bodyView, deskLimit};
-ghost use Rattle.rules.specs.Record.{padded};
-ghost use Rattle.audit.specs.Account.{BodyIn, Passed, sideOf};
+ghost use Rattle.rules.specs.Loops.{_and_, sum};
+ghost use Rattle.rules.specs.Pile.{draw, tip, topLimit, credit, lawful, openingLawful, pileAnswer};
+ghost use Rattle.rules.specs.Layout.{bodyView};
+ghost use Rattle.audit.specs.Account.{BodyIn, Passed};
 
 // The most that a top may be.
 const TOP_LIMIT: u64 = 10_000_000;

@@ -1,5 +1,5 @@
-// The account of a pile's rights, on the bytes of its body: what a book's check and a record's check go by. A body has places for w desks, of which n
-// are used: a book's body has n, and a record is laid out as a body of 8.
+// The account of a pile's rights, on the bytes of its body: what a book's check, its queries and the acts on it go by. A body has places for w desks, of
+// which n are used: all of them in a book.
 mod judge;
 mod rights;
 mod runs;

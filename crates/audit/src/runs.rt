@@ -1,8 +1,8 @@
 // Runs of numbers that stand side by side. Sums are u64, so no bytes, lawful or not, make one wrap.
 use number::get4;
 ghost use mathlib.Core.Path.{_≡_};
-ghost use Prim.Native.Nat.{ℕ, _+_, _*_, _≤_, _<_};
-ghost use lib.ListN.{length, getD};
+ghost use Prim.Native.Nat.{_+_, _*_, _≤_, _<_};
+ghost use lib.ListN.{length};
 ghost use lib.Dec.{leb};
 ghost use Rattle.rules.specs.Loops.{sum, every};
 ghost use Rattle.rules.specs.Numbers.{number};
