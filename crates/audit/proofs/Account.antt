@@ -1,34 +1,19 @@
--- One desk's line in a body's account: where its two tallies of acts stand, its credit and its debit of a side, and whether its debits are covered.
+-- One desk's line in a body's account: its credit and its debit of a side, and whether its debits are covered.
 -- Assumes nothing.
-use Prim.Native.Nat.{ℕ, zero, suc, _+_, _-_, _*_, _≤_, _<_}
+use Prim.Native.Nat.{ℕ, zero, suc, _+_, _-_, _≤_, _<_}
 use native.Mathlib.Numerals.{add-one}
 use native.Mathlib.Omega.{arith}
 use mathlib.Core.Path.{_≡_, refl, ap, ap₂, sym, _∙_}
 use mathlib.Core.Bool.{Bool, true, false}
 use mathlib.Core.List.{List}
-use lib.ListN.{length, getD}
+use lib.ListN.{getD}
 use lib.Dec.{leb}
 use borrow.Author.Tests.{le-leb, lt-leb}
 use Rattle.rules.specs.Loops.{_and_, every}
-use Rattle.rules.specs.Numbers.{number}
 use Rattle.rules.specs.Pile.{Side, draw, tip, other, bothSides, Pile, credit, debit}
-use Rattle.rules.specs.Layout.{rowLength, bodyLength, cellAt, earnedColumn, bodyView}
+use Rattle.rules.specs.Layout.{earnedColumn}
 use Rattle.rules.proofs.Loops.Logic.{and-true, and-right-fails}
-use Rattle.rules.proofs.Loops.Ranges.{piece-within}
-use Rattle.audit.specs.Account.{BodyIn, Passed, sideOf}
-
-module _ (w : ℕ) (b : List ℕ) (at : ℕ) where
-  -- the row of a desk lies within the bytes
-  pub row-in : {n : ℕ} → BodyIn w n at b → (i : ℕ) → i < n → at + ((i + 1) * (8 * (w + 1)) + 8 * (w + 1)) ≤ length b
-  unfolding bodyLength
-  row-in body i i<n =
-      let l : i + 1 < w + 1 = omega arith in
-      omega (arith, piece-within (8 * (w + 1)) l)
-
-  -- what a desk earned of a side stands in its row
-  pub earned-at : (s : Side) (i x to : ℕ) → x ≡ number 4 b to → to ≡ at + (i + 1) * (8 * (w + 1)) + 4 * earnedColumn s → x ≡ bodyView w b at .earned s i
-  unfolding cellAt rowLength
-  earned-at s i x to e l = e ∙ ap (number 4 b) (omega arith)
+use Rattle.audit.specs.Account.{Passed, sideOf}
 
 module _ {p : Pile} {s : Side} {n : ℕ} {totals made : List ℕ} (passed : Passed p s n n totals made) (i : ℕ) (i<n : i < n) where
   pub credit-at : {x : ℕ} → x ≡ p .earned s i → getD totals i 0 + x ≡ credit n p s i

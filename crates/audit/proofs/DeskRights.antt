@@ -13,95 +13,82 @@ use borrow.Author.Tests.{le-leb, lt-leb, leb-true, lt-ltb, le-ltb}
 use Rattle.rules.specs.Loops.{_and_, sum}
 use Rattle.rules.specs.Numbers.{number}
 use Rattle.rules.specs.Pile.{Side, draw, tip, other, Pile, rights, credit, debit, tonnage}
-use Rattle.rules.specs.Layout.{deskLimit, rowLength, bodyLength, earnedColumn, bodyView}
+use Rattle.rules.specs.Layout.{deskLimit, bodyLength, earnedColumn, bodyView}
 use Rattle.rules.proofs.Loops.Logic.{same, and-left, and-right, and-left-holds, and-left-fails, and-right-fails}
 use Rattle.rules.proofs.Loops.Sums.{sum-cong}
 use Rattle.audit.specs.Account.{BodyIn, Strided, sideOf}
 use Rattle.audit.specs.Audits.{bodyThere, rightsIn, tonnageIn}
-use Rattle.audit.proofs.Account.{earned-at}
-use Rattle.audit.proofs.Places.{sideAt, give-at, share-at, row-within}
+use Rattle.audit.proofs.Places.{sideAt, give-at, share-at, earned-at, row-within}
 
 -- a body's length is small
-pub square-small : {w : ℕ} → w ≤ deskLimit → (w + 1) * (w + 1) ≤ 81
-square-small {w} l = let m : w + 1 ≤ 9 = omega arith in mul-le-mul m m
+pub square-small : {n : ℕ} → n ≤ deskLimit → (n + 1) * (n + 1) ≤ 81
+square-small {n} l = let m : n + 1 ≤ 9 = omega arith in mul-le-mul m m
 
 -- where one of the tests for a body fails, and where all but the last hold
-module _ (w n at size : ℕ) where
-  pub not-used : w < n → false ≡ bodyThere w n at size
+module _ (n at size : ℕ) where
+  pub not-limited : deskLimit < n → false ≡ bodyThere n at size
   unfolding bodyThere
-  not-used l = sym (and-left-fails (lt-leb _ _ l) _)
+  not-limited l = sym (and-left-fails (lt-leb _ _ l) _)
 
-  pub not-limited : deskLimit < w → false ≡ bodyThere w n at size
+  pub not-long : size < at → false ≡ bodyThere n at size
   unfolding bodyThere
-  not-limited l = sym (and-right-fails _ (and-left-fails (lt-leb _ _ l) _))
+  not-long l = sym (and-right-fails _ (lt-leb (at + bodyLength n) size (omega arith)))
 
-  pub not-long : size < at → false ≡ bodyThere w n at size
+  pub there-where : n ≤ deskLimit → at ≤ size → leb (bodyLength n) (size - at) ≡ bodyThere n at size
   unfolding bodyThere
-  not-long l = sym (and-right-fails _ (and-right-fails _ (lt-leb (at + bodyLength w) size (omega arith))))
-
-  pub there-where : n ≤ w → w ≤ deskLimit → at ≤ size → leb (bodyLength w) (size - at) ≡ bodyThere w n at size
-  unfolding bodyThere
-  there-where used limited l =
-      same _ _ (λ e. le-leb (at + bodyLength w) size (omega (arith, leb-true (bodyLength w) (size - at) e)))
-      (λ e. le-leb (bodyLength w) (size - at) (omega (arith, leb-true (at + bodyLength w) size e)))
+  there-where limited l =
+      same _ _ (λ e. le-leb (at + bodyLength n) size (omega (arith, leb-true (bodyLength n) (size - at) e)))
+      (λ e. le-leb (bodyLength n) (size - at) (omega (arith, leb-true (at + bodyLength n) size e)))
       ∙ and-left-holds (le-leb _ _ limited) _
-      ∙ and-left-holds (le-leb _ _ used) _
 
 -- a body that is there lies within the bytes
-pub there-in : {w n at : ℕ} {b : List ℕ} → bodyThere w n at (length b) ≡ true → BodyIn w n at b
+pub there-in : {n at : ℕ} {b : List ℕ} → bodyThere n at (length b) ≡ true → BodyIn n at b
 unfolding bodyThere
-there-in e =
-    let rest = and-right _ _ e in
-    record {
-      used = leb-true _ _ (and-left _ _ e);
-      desks-most = leb-true _ _ (and-left _ _ rest);
-      within = leb-true _ _ (and-right _ _ rest);
-    }
+there-in e = record { desks-most = leb-true _ _ (and-left _ _ e); within = leb-true _ _ (and-right _ _ e) }
 
 -- where a side's gives, or shares, start, by the side's number
-pub side-at : (w side : ℕ) → side ≤ 1 → 4 * (w * side) ≡ sideAt w (sideOf side)
-side-at w zero l = omega arith
-side-at w (suc zero) l = omega arith
-side-at w (suc (suc n)) l = absurd (omega arith)
+pub side-at : (n side : ℕ) → side ≤ 1 → 4 * (n * side) ≡ sideAt n (sideOf side)
+side-at n zero l = omega arith
+side-at n (suc zero) l = omega arith
+side-at n (suc (suc k)) l = absurd (omega arith)
 
--- it is at most w places further
-pub side-most : (w side : ℕ) → side ≤ 1 → w * side ≤ w
-side-most w zero l = omega arith
-side-most w (suc zero) l = omega arith
-side-most w (suc (suc n)) l = absurd (omega arith)
+-- it is at most n numbers further
+pub side-most : (n side : ℕ) → side ≤ 1 → n * side ≤ n
+side-most n zero l = omega arith
+side-most n (suc zero) l = omega arith
+side-most n (suc (suc k)) l = absurd (omega arith)
 
 next-row : (k r : ℕ) → (k + 1) * r ≡ k * r + r
 next-row k r = add-mul k 1 r ∙ ap (λ (x : ℕ). k * r + x) (one-mul r)
 
 -- numbers of one column, and of one row, lie within the bytes
-module _ {w n at : ℕ} {b : List ℕ} (body : BodyIn w n at b) where
-  pub column-strided : {from : ℕ} → from + 4 ≤ at + 8 * (w + 1) + 8 * (w + 1) → Strided from (8 * (w + 1)) n b
-  unfolding rowLength
+module _ {n at : ℕ} {b : List ℕ} (body : BodyIn n at b) where
+  pub column-strided : {from : ℕ} → from + 4 ≤ at + 8 * (n + 1) + 8 * (n + 1) → Strided from (8 * (n + 1)) n b
   column-strided l =
       record {
-        places = omega (arith, body .used, body .desks-most);
-        within = λ k k<n. omega (arith, row-within body k<n, next-row k (8 * (w + 1)));
+        places = body .desks-most;
+        within = λ k k<n. omega (arith, row-within body k<n, next-row k (8 * (n + 1)));
       }
 
   pub row-strided : {from : ℕ} → from + n * 4 ≤ length b → Strided from 4 n b
-  row-strided l = record { places = omega (arith, body .used, body .desks-most); within = λ k k<n. omega arith }
+  row-strided l = record { places = body .desks-most; within = λ k k<n. omega arith }
 
 -- and what they come to
-module _ (w n at : ℕ) (b : List ℕ) (s : Side) {x from : ℕ} where
-  pub got-sum : (i : ℕ) → x ≡ sum n (λ k. number 4 b (from + k * (8 * (w + 1)))) → from ≡ at + 8 * (w + 1) + 8 + sideAt w s + i * 4
-      → x ≡ sum n (λ j. bodyView w b at .give s j i)
-  got-sum i e place = e ∙ sum-cong n (λ j l. give-at w b at s j i refl (omega (arith, next-row j (8 * (w + 1)))))
+module _ (n at : ℕ) (b : List ℕ) (s : Side) {x from : ℕ} where
+  pub got-sum : (i : ℕ) → x ≡ sum n (λ k. number 4 b (from + k * (8 * (n + 1)))) → from ≡ at + 8 * (n + 1) + 8 + sideAt n s + i * 4
+      → x ≡ sum n (λ j. bodyView n b at .give s j i)
+  got-sum i e place = e ∙ sum-cong n (λ j l. give-at n b at s j i refl (omega (arith, next-row j (8 * (n + 1)))))
 
-  pub given-sum : (i : ℕ) → x ≡ sum n (λ k. number 4 b (from + k * 4)) → from ≡ at + (i + 1) * (8 * (w + 1)) + 8 + sideAt w s
-      → x ≡ sum n (λ j. bodyView w b at .give s i j)
-  given-sum i e place = e ∙ sum-cong n (λ j l. give-at w b at s i j refl (omega arith))
+  pub given-sum : (i : ℕ) → x ≡ sum n (λ k. number 4 b (from + k * 4)) → from ≡ at + (i + 1) * (8 * (n + 1)) + 8 + sideAt n s
+      → x ≡ sum n (λ j. bodyView n b at .give s i j)
+  given-sum i e place = e ∙ sum-cong n (λ j l. give-at n b at s i j refl (omega arith))
 
-  pub earned-sum : x ≡ sum n (λ k. number 4 b (from + k * (8 * (w + 1)))) → from ≡ at + 8 * (w + 1) + 4 * earnedColumn s
-      → x ≡ sum n (bodyView w b at .earned s)
-  earned-sum e place = e ∙ sum-cong n (λ j l. earned-at w b at s j _ _ refl (omega (arith, next-row j (8 * (w + 1)))))
+  pub earned-sum : x ≡ sum n (λ k. number 4 b (from + k * (8 * (n + 1)))) → from ≡ at + 8 * (n + 1) + 4 * earnedColumn s
+      → x ≡ sum n (bodyView n b at .earned s)
+  earned-sum e place = e ∙ sum-cong n (λ j l. earned-at n b at s j refl (omega (arith, next-row j (8 * (n + 1)))))
 
-  pub share-sum : x ≡ sum n (λ k. number 4 b (from + k * 4)) → from ≡ at + 8 + sideAt w s → x ≡ sum n (bodyView w b at .share s)
-  share-sum e place = e ∙ sum-cong n (λ j l. share-at w b at s j refl (omega arith))
+  pub share-sum : x ≡ sum n (λ k. number 4 b (from + k * 4)) → from ≡ at + 8 + sideAt n s → x ≡ sum n (bodyView n b at .share s)
+  share-sum e place = e ∙ sum-cong n (λ j l. share-at n b at s j refl (omega arith))
 
 -- rights, and the tonnage, of their parts
 module _ (n : ℕ) (p : Pile) where
@@ -116,25 +103,25 @@ module _ (n : ℕ) (p : Pile) where
   tonnage-of a b c d = ap₂ _-_ (ap₂ _+_ (ap₂ _+_ a b) c) d
 
 -- the answers, where there is no such body or desk, and where there is
-module _ (s : Side) (w n at : ℕ) (b : List ℕ) (i : ℕ) where
-  pub no-body : bodyThere w n at (length b) ≡ false → 0 ≡ rightsIn s w n at b i
+module _ (s : Side) (n at : ℕ) (b : List ℕ) (i : ℕ) where
+  pub no-body : bodyThere n at (length b) ≡ false → 0 ≡ rightsIn s n at b i
   unfolding rightsIn _and_
   no-body e = rw e
 
-  pub no-desk : n ≤ i → 0 ≡ rightsIn s w n at b i
+  pub no-desk : n ≤ i → 0 ≡ rightsIn s n at b i
   unfolding rightsIn
-  no-desk l = rw (and-right-fails (bodyThere w n at (length b)) (le-ltb i n l))
+  no-desk l = rw (and-right-fails (bodyThere n at (length b)) (le-ltb i n l))
 
-  pub desk-there : bodyThere w n at (length b) ≡ true → i < n → rights n (bodyView w b at) s i ≡ rightsIn s w n at b i
+  pub desk-there : bodyThere n at (length b) ≡ true → i < n → rights n (bodyView n b at) s i ≡ rightsIn s n at b i
   unfolding rightsIn _and_
   desk-there e l = rw (e, lt-ltb i n l)
 
-module _ (w n at : ℕ) (b : List ℕ) where
-  pub no-tonnage : bodyThere w n at (length b) ≡ false → 0 ≡ tonnageIn w n at b
+module _ (n at : ℕ) (b : List ℕ) where
+  pub no-tonnage : bodyThere n at (length b) ≡ false → 0 ≡ tonnageIn n at b
   unfolding tonnageIn
   no-tonnage e = rw e
 
-  pub tonnage-there : bodyThere w n at (length b) ≡ true → tonnage n (bodyView w b at) ≡ tonnageIn w n at b
+  pub tonnage-there : bodyThere n at (length b) ≡ true → tonnage n (bodyView n b at) ≡ tonnageIn n at b
   unfolding tonnageIn
   tonnage-there e = rw e
 

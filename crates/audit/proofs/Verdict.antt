@@ -82,30 +82,28 @@ module _ (n : ℕ) (p : Pile) where
   unfolding pileAnswer _when_ _orElse_
   answer-0 o t e = rw (o, t, e)
 
-module _ (w n at : ℕ) (b : List ℕ) where
+module _ (n at : ℕ) (b : List ℕ) where
   abbrev P : Pile
-  P = bodyView w b at
+  P = bodyView n b at
 
   -- the row of desk i as a loop over its bytes reads it: what it tipped, drew and gave of draw; what it gave of tip
   abbrev front : ℕ → ℕ → Bool
-  front i k = leb (number 4 b (at + (i + 1) * rowLength w + k * 4)) tallyLimit
+  front i k = leb (number 4 b (at + (i + 1) * rowLength n + k * 4)) tallyLimit
 
   abbrev back : ℕ → ℕ → Bool
-  back i k = leb (number 4 b (at + (i + 1) * rowLength w + 8 + 4 * w + k * 4)) tallyLimit
+  back i k = leb (number 4 b (at + (i + 1) * rowLength n + 8 + 4 * n + k * 4)) tallyLimit
 
-  front-at : (i c : ℕ) → leb (number 4 b (at + cellAt w (suc i) c)) tallyLimit ≡ front i c
+  front-at : (i c : ℕ) → leb (number 4 b (at + cellAt n (suc i) c)) tallyLimit ≡ front i c
   unfolding cellAt
-  front-at i c = ap (λ (k : ℕ). leb (number 4 b k) tallyLimit) (omega (arith, ap (λ (k : ℕ). k * rowLength w) (add-one i)))
+  front-at i c = ap (λ (k : ℕ). leb (number 4 b k) tallyLimit) (omega (arith, ap (λ (k : ℕ). k * rowLength n) (add-one i)))
 
   back-at : (i j : ℕ) → leb (P .give tip i j) tallyLimit ≡ back i j
   unfolding cellAt
-  back-at i j = ap (λ (k : ℕ). leb (number 4 b k) tallyLimit) (omega (arith, ap (λ (k : ℕ). k * rowLength w) (add-one i)))
+  back-at i j = ap (λ (k : ℕ). leb (number 4 b k) tallyLimit) (omega (arith, ap (λ (k : ℕ). k * rowLength n) (add-one i)))
 
   -- where no desk gave itself anything, these numbers' limits are all that is left of the tests on the tallies
-  pub read-lawful : n ≤ w → sum n (λ i. P .give draw i i + P .give tip i i) ≡ 0
-      → every n (λ i. every (2 + n) (λ k. leb (number 4 b (at + (i + 1) * rowLength w + k * 4)) tallyLimit)
-      and every n (λ k. leb (number 4 b (at + (i + 1) * rowLength w + 8 + 4 * w + k * 4)) tallyLimit)) ≡ every n (talliesLawful n P)
-  read-lawful _ z =
+  pub read-lawful : ownGives n P ≡ 0 → every n (λ i. every (2 + n) (front i) and every n (back i)) ≡ every n (talliesLawful n P)
+  read-lawful z =
       every-cong n
       (λ i l. same _ _ (λ e. row-passes n P z i l (earned i e) (given i e))
       (λ e. and-both (every-all (2 + n) (in-front i e)) (every-all n (in-back i e))))

@@ -10,11 +10,10 @@ use Rattle.rules.specs.Pile.{Side, Pile}
 use Rattle.rules.specs.Layout.{deskLimit, bodyLength}
 pub use Rattle.rules.specs.Pile.{sideOf}
 
--- a body of w desks, of which n are used, lies within the bytes from a position on
-pub record BodyIn (w n at : ℕ) (b : List ℕ) : Type 0 where
-  pub used : n ≤ w
-  pub desks-most : w ≤ deskLimit
-  pub within : at + bodyLength w ≤ length b
+-- a body of n desks lies within the bytes from a position on
+pub record BodyIn (n at : ℕ) (b : List ℕ) : Type 0 where
+  pub desks-most : n ≤ deskLimit
+  pub within : at + bodyLength n ≤ length b
 
 -- n numbers from a position on, and totals of 8 desks with room for them
 pub record RunFits (b : List ℕ) (at n : ℕ) (totals : List ℕ) : Type 0 where

@@ -10,26 +10,26 @@ use Rattle.rules.specs.Refusals.{_when_, _orElse_, first}
 use Rattle.rules.specs.Pile.{Side, Pile, rights, tonnage, pileAnswer}
 use Rattle.rules.specs.Layout.{deskLimit, pileLimit, bodyLength, bodyView}
 
--- Body k of those that start at a position. A body has places for w desks, of which n are used: all of them in a book.
+-- body k of those that start at a position
 abbrev pub bodyOf : ℕ → List ℕ → ℕ → ℕ → Pile
-bodyOf w b from k = bodyView w b (from + k * bodyLength w)
+bodyOf n b from k = bodyView n b (from + k * bodyLength n)
 
 -- 2 for sizes, 3 for another length than that of p bodies from a position on, and then the first refusal of a body
-unfoldable pub shapeAnswer : ℕ → ℕ → ℕ → ℕ → ℕ → ℕ
-shapeAnswer w n p from size =
-    2 when not (between 1 w n and leb w deskLimit and leb p pileLimit)
-    orElse 3 when not (eqb size (from + p * bodyLength w))
+unfoldable pub shapeAnswer : ℕ → ℕ → ℕ → ℕ → ℕ
+shapeAnswer n p from size =
+    2 when not (between 1 deskLimit n and leb p pileLimit)
+    orElse 3 when not (eqb size (from + p * bodyLength n))
 
-unfoldable pub bodiesAnswer : ℕ → ℕ → ℕ → ℕ → List ℕ → ℕ
-bodiesAnswer w n p from b = shapeAnswer w n p from (length b) orElse first p (λ k. pileAnswer n (bodyOf w b from k))
+unfoldable pub bodiesAnswer : ℕ → ℕ → ℕ → List ℕ → ℕ
+bodiesAnswer n p from b = shapeAnswer n p from (length b) orElse first p (λ k. pileAnswer n (bodyOf n b from k))
 
 -- is a body there, from a position on, among so many bytes
-unfoldable pub bodyThere : ℕ → ℕ → ℕ → ℕ → Bool
-bodyThere w n at size = leb n w and leb w deskLimit and leb (at + bodyLength w) size
+unfoldable pub bodyThere : ℕ → ℕ → ℕ → Bool
+bodyThere n at size = leb n deskLimit and leb (at + bodyLength n) size
 
 -- the rights of desk i and the tonnage of the body that starts at a position: 0 where there is no such body or desk
-unfoldable pub rightsIn : Side → ℕ → ℕ → ℕ → List ℕ → ℕ → ℕ
-rightsIn s w n at b i = cond (bodyThere w n at (length b) and ltb i n) (rights n (bodyView w b at) s i) 0
+unfoldable pub rightsIn : Side → ℕ → ℕ → List ℕ → ℕ → ℕ
+rightsIn s n at b i = cond (bodyThere n at (length b) and ltb i n) (rights n (bodyView n b at) s i) 0
 
-unfoldable pub tonnageIn : ℕ → ℕ → ℕ → List ℕ → ℕ
-tonnageIn w n at b = cond (bodyThere w n at (length b)) (tonnage n (bodyView w b at)) 0
+unfoldable pub tonnageIn : ℕ → ℕ → List ℕ → ℕ
+tonnageIn n at b = cond (bodyThere n at (length b)) (tonnage n (bodyView n b at)) 0

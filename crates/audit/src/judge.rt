@@ -38,20 +38,19 @@ struct Balance {
 fn balance_of(
     bytes: &[u8],
     at: usize,
-    w: usize,
     n: usize,
     draws: &[u64],
     draw_given: &[u64],
     tips: &[u64],
     tip_given: &[u64],
 ) -> Balance
-    requires body { ⌜ BodyIn w n at (now bytes) ⌝ }
-    requires draws { ⌜ Passed (bodyView w (now bytes) at) draw n n (now draws) (now «draw_given») ⌝ }
-    requires tips { ⌜ Passed (bodyView w (now bytes) at) tip n n (now tips) (now «tip_given») ⌝ }
-    ensures covered { λ r. ⌜ r .covered ≡ lawful n (bodyView w (now (bytes .entry)) at) ⌝ }
-    ensures credits { λ r. ⌜ r .credits ≡ sum n (λ i. credit n (bodyView w (now (bytes .entry)) at) draw i + credit n (bodyView w (now (bytes .entry)) at) tip i) ⌝ }
+    requires body { ⌜ BodyIn n at (now bytes) ⌝ }
+    requires draws { ⌜ Passed (bodyView n (now bytes) at) draw n n (now draws) (now «draw_given») ⌝ }
+    requires tips { ⌜ Passed (bodyView n (now bytes) at) tip n n (now tips) (now «tip_given») ⌝ }
+    ensures covered { λ r. ⌜ r .covered ≡ lawful n (bodyView n (now (bytes .entry)) at) ⌝ }
+    ensures credits { λ r. ⌜ r .credits ≡ sum n (λ i. credit n (bodyView n (now (bytes .entry)) at) draw i + credit n (bodyView n (now (bytes .entry)) at) tip i) ⌝ }
 {
-    let row = 8 * (w + 1);
+    let row = 8 * (n + 1);
     let mut covered = true;
     let mut credits: u64 = 0;
     let mut i = 0;
@@ -74,21 +73,13 @@ fn balance_of(
 }
 
 // The lines of the table in their order, from what was found.
-fn verdict(
-    bytes: &[u8],
-    at: usize,
-    w: usize,
-    n: usize,
-    opening: bool,
-    own: u64,
-    balance: Balance,
-) -> u8
-    requires body { ⌜ BodyIn w n at (now bytes) ⌝ }
-    requires opening { ⌜ opening ≡ openingLawful n (bodyView w (now bytes) at) ⌝ }
-    requires own { ⌜ own ≡ sum n (λ i. bodyView w (now bytes) at .give draw i i + bodyView w (now bytes) at .give tip i i) ⌝ }
-    requires covered { ⌜ balance .covered ≡ lawful n (bodyView w (now bytes) at) ⌝ }
-    requires credits { ⌜ balance .credits ≡ sum n (λ i. credit n (bodyView w (now bytes) at) draw i + credit n (bodyView w (now bytes) at) tip i) ⌝ }
-    ensures { λ r. ⌜ r ≡ pileAnswer n (bodyView w (now (bytes .entry)) at) ⌝ }
+fn verdict(bytes: &[u8], at: usize, n: usize, opening: bool, own: u64, balance: Balance) -> u8
+    requires body { ⌜ BodyIn n at (now bytes) ⌝ }
+    requires opening { ⌜ opening ≡ openingLawful n (bodyView n (now bytes) at) ⌝ }
+    requires own { ⌜ own ≡ sum n (λ i. bodyView n (now bytes) at .give draw i i + bodyView n (now bytes) at .give tip i i) ⌝ }
+    requires covered { ⌜ balance .covered ≡ lawful n (bodyView n (now bytes) at) ⌝ }
+    requires credits { ⌜ balance .credits ≡ sum n (λ i. credit n (bodyView n (now bytes) at) draw i + credit n (bodyView n (now bytes) at) tip i) ⌝ }
+    ensures { λ r. ⌜ r ≡ pileAnswer n (bodyView n (now (bytes .entry)) at) ⌝ }
 {
     if !opening {
         return 5;
@@ -99,7 +90,7 @@ fn verdict(
     // A tally above its limit would be above it in a credit too, and so in what they all come to.
     let credits = balance.credits;
     if TALLY_LIMIT < credits {
-        if !rows_within(bytes, at, w, n) {
+        if !rows_within(bytes, at, n) {
             return 6;
         }
     }
@@ -114,23 +105,22 @@ fn verdict(
 pub(crate) fn body_answer(
     bytes: &[u8],
     at: usize,
-    w: usize,
     n: usize,
     draws: &mut [u64],
     draw_given: &mut [u64],
     tips: &mut [u64],
     tip_given: &mut [u64],
 ) -> u8
-    requires body { ⌜ BodyIn w n at (now bytes) ⌝ }
+    requires body { ⌜ BodyIn n at (now bytes) ⌝ }
     requires draws { ⌜ (now draws ≡ replicate 8 0) × (now «draw_given» ≡ replicate 8 0) ⌝ }
     requires tips { ⌜ (now tips ≡ replicate 8 0) × (now «tip_given» ≡ replicate 8 0) ⌝ }
-    ensures answer { λ r. ⌜ r ≡ pileAnswer n (bodyView w (now (bytes .entry)) at) ⌝ }
-    ensures draws { λ _. ⌜ Passed (bodyView w (now (bytes .entry)) at) draw n n (now (draws .exit)) (now («draw_given» .exit)) ⌝ }
-    ensures tips { λ _. ⌜ Passed (bodyView w (now (bytes .entry)) at) tip n n (now (tips .exit)) (now («tip_given» .exit)) ⌝ }
+    ensures answer { λ r. ⌜ r ≡ pileAnswer n (bodyView n (now (bytes .entry)) at) ⌝ }
+    ensures draws { λ _. ⌜ Passed (bodyView n (now (bytes .entry)) at) draw n n (now (draws .exit)) (now («draw_given» .exit)) ⌝ }
+    ensures tips { λ _. ⌜ Passed (bodyView n (now (bytes .entry)) at) tip n n (now (tips .exit)) (now («tip_given» .exit)) ⌝ }
 {
-    let shares = add_run(bytes, at + 8, n, draws) + add_run(bytes, at + 8 + 4 * w, n, tips);
-    let own = read_rows_of(bytes, at, w, n, draws, draw_given, tips, tip_given);
-    let balance = balance_of(bytes, at, w, n, draws, draw_given, tips, tip_given);
+    let shares = add_run(bytes, at + 8, n, draws) + add_run(bytes, at + 8 + 4 * n, n, tips);
+    let own = read_rows_of(bytes, at, n, draws, draw_given, tips, tip_given);
+    let balance = balance_of(bytes, at, n, draws, draw_given, tips, tip_given);
     let opening = opening_sound(word(bytes, at), word(bytes, at + 4), shares);
-    verdict(bytes, at, w, n, opening, own, balance)
+    verdict(bytes, at, n, opening, own, balance)
 }

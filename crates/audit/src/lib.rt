@@ -1,5 +1,4 @@
-// The account of a pile's rights, on the bytes of its body: what a book's check, its queries and the acts on it go by. A body has places for w desks, of
-// which n are used: all of them in a book.
+// The account of a pile's rights, on the bytes of its body: what a book's check, its queries and the acts on it go by.
 mod judge;
 mod rights;
 mod runs;
@@ -21,16 +20,13 @@ pub(crate) const PLACES: usize = 8;
 const BODIES: usize = 32;
 
 // 2 for sizes, 3 where there are more or less bytes than p bodies from a position on.
-fn shape_answer(length: usize, from: usize, w: usize, n: usize, p: usize) -> u8
-    ensures { λ r. ⌜ r ≡ shapeAnswer w n p from length ⌝ }
+fn shape_answer(length: usize, from: usize, n: usize, p: usize) -> u8
+    ensures { λ r. ⌜ r ≡ shapeAnswer n p from length ⌝ }
 {
     if n < 1 {
         return 2;
     }
-    if w < n {
-        return 2;
-    }
-    if PLACES < w {
+    if PLACES < n {
         return 2;
     }
     if BODIES < p {
@@ -39,7 +35,7 @@ fn shape_answer(length: usize, from: usize, w: usize, n: usize, p: usize) -> u8
     if length < from {
         return 3;
     }
-    if length - from != p * (8 * ((w + 1) * (w + 1))) {
+    if length - from != p * (8 * ((n + 1) * (n + 1))) {
         return 3;
     }
     0
@@ -47,14 +43,14 @@ fn shape_answer(length: usize, from: usize, w: usize, n: usize, p: usize) -> u8
 
 // One pass over p bodies from a position on, with nothing behind them: refused with 2 for sizes, 3 for the length, or as the first body that is, with 5, 6
 // or 7.
-pub fn check_bodies(bytes: &[u8], from: usize, w: usize, n: usize, p: usize) -> u8
-    ensures { λ r. ⌜ r ≡ bodiesAnswer w n p from (now (bytes .entry)) ⌝ }
+pub fn check_bodies(bytes: &[u8], from: usize, n: usize, p: usize) -> u8
+    ensures { λ r. ⌜ r ≡ bodiesAnswer n p from (now (bytes .entry)) ⌝ }
 {
-    let shape = shape_answer(bytes.len(), from, w, n, p);
+    let shape = shape_answer(bytes.len(), from, n, p);
     if shape != 0 {
         return shape;
     }
-    let size = 8 * ((w + 1) * (w + 1));
+    let size = 8 * ((n + 1) * (n + 1));
     let mut at = from;
     let mut k = 0;
     while k < p {
@@ -65,7 +61,6 @@ pub fn check_bodies(bytes: &[u8], from: usize, w: usize, n: usize, p: usize) -> 
         let answer = body_answer(
             bytes,
             at,
-            w,
             n,
             &mut draws,
             &mut draw_given,
@@ -81,11 +76,11 @@ pub fn check_bodies(bytes: &[u8], from: usize, w: usize, n: usize, p: usize) -> 
     0
 }
 
-// A desk's rights of a side in the body at a position, 0 for draw and 1 for tip; 0 where there is no such body or desk.
-pub fn rights_in(bytes: &[u8], at: usize, w: usize, n: usize, side: u8, desk: u8) -> u64
-    ensures { λ r. ⌜ r ≡ rightsIn (sideOf side) w n at (now (bytes .entry)) desk ⌝ }
+// A desk's rights of a side in the body at a position, 0 for draw, any other for tip; 0 where there is no such body or desk.
+pub fn rights_in(bytes: &[u8], at: usize, n: usize, side: u8, desk: u8) -> u64
+    ensures { λ r. ⌜ r ≡ rightsIn (sideOf side) n at (now (bytes .entry)) desk ⌝ }
 {
-    if !body_there(bytes.len(), at, w, n) {
+    if !body_there(bytes.len(), at, n) {
         return 0;
     }
     let i = desk as usize;
@@ -93,19 +88,19 @@ pub fn rights_in(bytes: &[u8], at: usize, w: usize, n: usize, side: u8, desk: u8
         return 0;
     }
     if side == 0 {
-        return left_of(bytes, at, w, n, i, 0);
+        return left_of(bytes, at, n, i, 0);
     }
-    left_of(bytes, at, w, n, i, 1)
+    left_of(bytes, at, n, i, 1)
 }
 
 // The tonnage of the body at a position; 0 where there is no such body.
-pub fn tonnage_in(bytes: &[u8], at: usize, w: usize, n: usize) -> u64
-    ensures { λ r. ⌜ r ≡ tonnageIn w n at (now (bytes .entry)) ⌝ }
+pub fn tonnage_in(bytes: &[u8], at: usize, n: usize) -> u64
+    ensures { λ r. ⌜ r ≡ tonnageIn n at (now (bytes .entry)) ⌝ }
 {
-    if !body_there(bytes.len(), at, w, n) {
+    if !body_there(bytes.len(), at, n) {
         return 0;
     }
-    let row = 8 * (w + 1);
+    let row = 8 * (n + 1);
     let tipped = sum_apart(bytes, at + row, row, n);
     let drawn = sum_apart(bytes, at + row + 4, row, n);
     less(

@@ -11,20 +11,17 @@ ghost use Rattle.rules.specs.Layout.{bodyView};
 ghost use Rattle.audit.specs.Account.{BodyIn, Strided, sideOf};
 ghost use Rattle.audit.specs.Audits.{bodyThere};
 
-// Is a body of w desks, of which n are used, there from a position on?
-pub(crate) fn body_there(length: usize, at: usize, w: usize, n: usize) -> bool
-    ensures { λ r. ⌜ r ≡ bodyThere w n at length ⌝ }
+// Is a body of n desks there from a position on?
+pub(crate) fn body_there(length: usize, at: usize, n: usize) -> bool
+    ensures { λ r. ⌜ r ≡ bodyThere n at length ⌝ }
 {
-    if w < n {
-        return false;
-    }
-    if PLACES < w {
+    if PLACES < n {
         return false;
     }
     if length < at {
         return false;
     }
-    8 * ((w + 1) * (w + 1)) <= length - at
+    8 * ((n + 1) * (n + 1)) <= length - at
 }
 
 // What numbers come to that stand so many bytes apart.
@@ -52,13 +49,13 @@ pub(crate) fn less(credit: u64, debit: u64) -> u64
 }
 
 // The rights of desk i: its share, what it earned and what it got, less what it gave and spent.
-pub(crate) fn left_of(bytes: &[u8], at: usize, w: usize, n: usize, i: usize, side: usize) -> u64
-    requires { ⌜ (side ≤ 1) × (i < n) × BodyIn w n at (now bytes) ⌝ }
-    ensures { λ r. ⌜ r ≡ rights n (bodyView w (now (bytes .entry)) at) (sideOf side) i ⌝ }
+pub(crate) fn left_of(bytes: &[u8], at: usize, n: usize, i: usize, side: usize) -> u64
+    requires { ⌜ (side ≤ 1) × (i < n) × BodyIn n at (now bytes) ⌝ }
+    ensures { λ r. ⌜ r ≡ rights n (bodyView n (now (bytes .entry)) at) (sideOf side) i ⌝ }
 {
-    let row = 8 * (w + 1);
+    let row = 8 * (n + 1);
     let own = at + (i + 1) * row;
-    let first = 8 + 4 * (w * side);
+    let first = 8 + 4 * (n * side);
     let got = sum_apart(bytes, at + row + first + 4 * i, row, n);
     let given = sum_apart(bytes, own + first, 4, n);
     let share = word(bytes, at + first + 4 * i);

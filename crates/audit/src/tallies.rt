@@ -16,79 +16,74 @@ ghost use Rattle.audit.specs.Account.{BodyIn, Passed};
 fn read_rows(
     bytes: &[u8],
     at: usize,
-    w: usize,
     n: usize,
     draws: &mut [u64],
     draw_given: &mut [u64],
     tips: &mut [u64],
     tip_given: &mut [u64],
 ) -> u64
-    requires body { ⌜ BodyIn w n at (now bytes) ⌝ }
-    requires draws { ⌜ Passed (bodyView w (now bytes) at) draw n 0 (now draws) (now «draw_given») ⌝ }
-    requires tips { ⌜ Passed (bodyView w (now bytes) at) tip n 0 (now tips) (now «tip_given») ⌝ }
-    ensures own { λ r. ⌜ r ≡ sum n (λ i. bodyView w (now (bytes .entry)) at .give draw i i + bodyView w (now (bytes .entry)) at .give tip i i) ⌝ }
-    ensures draws { λ _. ⌜ Passed (bodyView w (now (bytes .entry)) at) draw n n (now (draws .exit)) (now («draw_given» .exit)) ⌝ }
-    ensures tips { λ _. ⌜ Passed (bodyView w (now (bytes .entry)) at) tip n n (now (tips .exit)) (now («tip_given» .exit)) ⌝ }
+    requires body { ⌜ BodyIn n at (now bytes) ⌝ }
+    requires draws { ⌜ Passed (bodyView n (now bytes) at) draw n 0 (now draws) (now «draw_given») ⌝ }
+    requires tips { ⌜ Passed (bodyView n (now bytes) at) tip n 0 (now tips) (now «tip_given») ⌝ }
+    ensures own { λ r. ⌜ r ≡ sum n (λ i. bodyView n (now (bytes .entry)) at .give draw i i + bodyView n (now (bytes .entry)) at .give tip i i) ⌝ }
+    ensures draws { λ _. ⌜ Passed (bodyView n (now (bytes .entry)) at) draw n n (now (draws .exit)) (now («draw_given» .exit)) ⌝ }
+    ensures tips { λ _. ⌜ Passed (bodyView n (now (bytes .entry)) at) tip n n (now (tips .exit)) (now («tip_given» .exit)) ⌝ }
 {
-    let row = 8 * (w + 1);
+    let row = 8 * (n + 1);
     let mut own: u64 = 0;
     let mut i = 0;
     while i < n {
         let gives = at + (i + 1) * row + 8;
         draw_given[i] = add_run(bytes, gives, n, draws);
-        tip_given[i] = add_run(bytes, gives + 4 * w, n, tips);
-        own = own + word(bytes, gives + 4 * i) + word(bytes, gives + 4 * w + 4 * i);
+        tip_given[i] = add_run(bytes, gives + 4 * n, n, tips);
+        own = own + word(bytes, gives + 4 * i) + word(bytes, gives + 4 * n + 4 * i);
         i += 1;
     }
     own
 }
 
-// The same, with the number of desks written out for a body that has no unused places, so that the compiler lays out a loop for each. Not for all: it
-// follows a list's uses only so far, and with more of them it would have to read for every sum whether the bytes overlap it.
+// The same, with the number of desks written out, so that the compiler lays out a loop for each. Not for all: with calls for all eight numbers the output
+// tests as it runs whether lists and bytes overlap, and does nothing several at a time.
 pub(crate) fn read_rows_of(
     bytes: &[u8],
     at: usize,
-    w: usize,
     n: usize,
     draws: &mut [u64],
     draw_given: &mut [u64],
     tips: &mut [u64],
     tip_given: &mut [u64],
 ) -> u64
-    requires body { ⌜ BodyIn w n at (now bytes) ⌝ }
-    requires draws { ⌜ Passed (bodyView w (now bytes) at) draw n 0 (now draws) (now «draw_given») ⌝ }
-    requires tips { ⌜ Passed (bodyView w (now bytes) at) tip n 0 (now tips) (now «tip_given») ⌝ }
-    ensures own { λ r. ⌜ r ≡ sum n (λ i. bodyView w (now (bytes .entry)) at .give draw i i + bodyView w (now (bytes .entry)) at .give tip i i) ⌝ }
-    ensures draws { λ _. ⌜ Passed (bodyView w (now (bytes .entry)) at) draw n n (now (draws .exit)) (now («draw_given» .exit)) ⌝ }
-    ensures tips { λ _. ⌜ Passed (bodyView w (now (bytes .entry)) at) tip n n (now (tips .exit)) (now («tip_given» .exit)) ⌝ }
+    requires body { ⌜ BodyIn n at (now bytes) ⌝ }
+    requires draws { ⌜ Passed (bodyView n (now bytes) at) draw n 0 (now draws) (now «draw_given») ⌝ }
+    requires tips { ⌜ Passed (bodyView n (now bytes) at) tip n 0 (now tips) (now «tip_given») ⌝ }
+    ensures own { λ r. ⌜ r ≡ sum n (λ i. bodyView n (now (bytes .entry)) at .give draw i i + bodyView n (now (bytes .entry)) at .give tip i i) ⌝ }
+    ensures draws { λ _. ⌜ Passed (bodyView n (now (bytes .entry)) at) draw n n (now (draws .exit)) (now («draw_given» .exit)) ⌝ }
+    ensures tips { λ _. ⌜ Passed (bodyView n (now (bytes .entry)) at) tip n n (now (tips .exit)) (now («tip_given» .exit)) ⌝ }
 {
-    if w != n {
-        return read_rows(bytes, at, w, n, draws, draw_given, tips, tip_given);
-    }
     match n {
-        1 => read_rows(bytes, at, 1, 1, draws, draw_given, tips, tip_given),
-        2 => read_rows(bytes, at, 2, 2, draws, draw_given, tips, tip_given),
-        3 => read_rows(bytes, at, 3, 3, draws, draw_given, tips, tip_given),
-        4 => read_rows(bytes, at, 4, 4, draws, draw_given, tips, tip_given),
-        8 => read_rows(bytes, at, 8, 8, draws, draw_given, tips, tip_given),
-        _ => read_rows(bytes, at, w, n, draws, draw_given, tips, tip_given),
+        1 => read_rows(bytes, at, 1, draws, draw_given, tips, tip_given),
+        2 => read_rows(bytes, at, 2, draws, draw_given, tips, tip_given),
+        3 => read_rows(bytes, at, 3, draws, draw_given, tips, tip_given),
+        4 => read_rows(bytes, at, 4, draws, draw_given, tips, tip_given),
+        8 => read_rows(bytes, at, 8, draws, draw_given, tips, tip_given),
+        _ => read_rows(bytes, at, n, draws, draw_given, tips, tip_given),
     }
 }
 
 // Is each tally of n rows within its limit?
-pub(crate) fn rows_within(bytes: &[u8], at: usize, w: usize, n: usize) -> bool
-    requires { ⌜ BodyIn w n at (now bytes) ⌝ }
-    ensures { λ r. ⌜ r ≡ every n (λ i. every (2 + n) (λ k. leb (number 4 (now (bytes .entry)) (at + (i + 1) * rowLength w + k * 4)) tallyLimit)
-        and every n (λ k. leb (number 4 (now (bytes .entry)) (at + (i + 1) * rowLength w + 8 + 4 * w + k * 4)) tallyLimit)) ⌝ }
+pub(crate) fn rows_within(bytes: &[u8], at: usize, n: usize) -> bool
+    requires { ⌜ BodyIn n at (now bytes) ⌝ }
+    ensures { λ r. ⌜ r ≡ every n (λ i. every (2 + n) (λ k. leb (number 4 (now (bytes .entry)) (at + (i + 1) * rowLength n + k * 4)) tallyLimit)
+        and every n (λ k. leb (number 4 (now (bytes .entry)) (at + (i + 1) * rowLength n + 8 + 4 * n + k * 4)) tallyLimit)) ⌝ }
 {
-    let row = 8 * (w + 1);
+    let row = 8 * (n + 1);
     let mut i = 0;
     while i < n {
         let from = at + (i + 1) * row;
         if !run_within(bytes, from, 2 + n) {
             return false;
         }
-        if !run_within(bytes, from + 8 + 4 * w, n) {
+        if !run_within(bytes, from + 8 + 4 * n, n) {
             return false;
         }
         i += 1;

@@ -1,73 +1,111 @@
--- What is read of the body of a pile that a desk's call found.
+-- What is read of a sound body; and that the body that a desk's call found is one, of which the call replies.
 -- Assumes nothing.
-use Prim.Native.Nat.{ℕ, _+_, _≤_}
+use Prim.Native.Nat.{ℕ, _≤_}
+use native.Mathlib.Decide.{ℕ-discrete}
 use native.Mathlib.Nat.{le-refl}
 use native.Mathlib.Omega.{arith}
-use mathlib.Core.Path.{_≡_, ap, sym, _∙_}
+use mathlib.Core.Path.{_≡_, refl, ap, sym, _∙_}
+use mathlib.Core.Logic.{by-cases}
 use mathlib.Core.Bool.{true}
 use mathlib.Core.List.{List}
 use lib.ListN.{length}
 use borrow.Author.Tests.{le-leb, lt-ltb}
-use Rattle.rules.specs.Refusals.{value}
-use Rattle.rules.specs.Pile.{Side, rights, tonnage, topLimit}
-use Rattle.rules.specs.Layout.{bodyLength, bodyAt, desks, piles, pileOf}
+use Rattle.rules.specs.Refusals.{reply}
+use Rattle.rules.specs.Pile.{Side, Pile, rights, tonnage, topLimit}
+use Rattle.rules.specs.Layout.{bodyAt, bodyView, desks, piles, pileOf}
 use Rattle.rules.specs.Book.{place, deskAnswer, rightsReply, tonnageReply}
 use Rattle.rules.specs.Record.{deskStart}
 use Rattle.rules.proofs.Loops.Logic.{and-both}
-use Rattle.rules.proofs.Loops.Refusals.{reply-value}
+use Rattle.rules.proofs.Loops.Refusals.{reply-refused}
 use Rattle.rules.proofs.Pile.Facts.{PileFacts, facts}
 use Rattle.rules.proofs.Pile.Tonnage.{rights-most, tonnage-within}
 use Rattle.rules.proofs.File.Readable.{BookFacts, book-facts}
 use Rattle.rules.proofs.File.Found.{found-readable, found-desk, found-place, desk-0-fetch}
 use Rattle.rules.proofs.Record.OfBody.{found-start}
 use Rattle.audit.specs.Audits.{bodyThere, rightsIn, tonnageIn}
+use Rattle.book.specs.Within.{SoundBody}
 use Rattle.book.proofs.Lengths.{body-within, position-most}
 
-module _ (i : ℕ) (b : List ℕ) (number : ℕ) (found : deskAnswer i b number ≡ 0) {start : ℕ} (is : start ≡ deskStart i b number) where
+module _ (i : ℕ) (b : List ℕ) {at : ℕ} (sound : SoundBody i b at) where
   abbrev n : ℕ
   n = desks b
 
+  abbrev P : Pile
+  P = bodyView n b at
+
+  pub pile-sound : PileFacts n P
+  pile-sound = facts n P (sound .passes)
+
+  there : bodyThere n n at (length b) ≡ true
+  unfolding bodyThere
+  there = and-both (le-leb _ _ (le-refl n)) (and-both (le-leb _ _ (sound .body .desks-most)) (le-leb _ _ (sound .body .within)))
+
+  pub rights-read : (s : Side) {x : ℕ} → x ≡ rightsIn s n at b i → x ≡ rights n P s i
+  unfolding rightsIn
+  rights-read s e = e ∙ rw (and-both there (lt-ltb _ _ (sound .desk)))
+
+  pub rights-small : (s : Side) {x : ℕ} → x ≡ rightsIn s n at b i → x ≤ topLimit
+  rights-small s e = rw (rights-read s e) (rights-most n P pile-sound s i (sound .desk))
+
+  pub tonnage-read : {x : ℕ} → x ≡ tonnageIn n at b → x ≡ tonnage n P
+  unfolding tonnageIn
+  tonnage-read e = e ∙ rw there
+
+  pub tonnage-small : {x : ℕ} → x ≡ tonnageIn n at b → x ≤ topLimit
+  tonnage-small e = rw (tonnage-read e) (omega (arith, tonnage-within n P pile-sound .1, pile-sound .opening .top-limit))
+
+-- the pile was found
+module _ (i : ℕ) (b : List ℕ) (number : ℕ) (found : deskAnswer i b number ≡ 0) {start : ℕ} (is : start ≡ deskStart i b number) where
   book : BookFacts b
   book = book-facts b (found-readable i b number found)
 
-  pub pile-found : PileFacts n (pileOf b (place b number))
-  pile-found = facts n (pileOf b (place b number)) (book .bodies (place b number) (found-place i b number found))
-
-  pub start-found : start ≡ bodyAt n (piles b) (place b number)
-  start-found = is ∙ found-start i b number found
+  begins : start ≡ bodyAt (desks b) (piles b) (place b number)
+  begins = is ∙ found-start i b number found
 
   pub start-most : start ≤ 20932
   start-most =
       let sizes = book .sizes in
-      rw start-found (position-most n (piles b) (place b number) (sizes .desks-most) (sizes .piles-most) (omega (arith, sizes .piles-most, found-place i b number found)))
+      rw begins (position-most (desks b) (piles b) (place b number) (sizes .desks-most) (sizes .piles-most)
+      (omega (arith, sizes .piles-most, found-place i b number found)))
 
-  -- it lies within the book
-  there : bodyThere n n start (length b) ≡ true
-  unfolding bodyThere
-  there =
-      let within : start + bodyLength n ≤ length b = omega (arith, start-found, book .sized, body-within n (piles b) (place b number) (found-place i b number found)) in
-      and-both (le-leb _ _ (le-refl n)) (and-both (le-leb _ _ (book .sizes .desks-most)) (le-leb _ _ within))
+  pile-is : bodyView (desks b) b start ≡ pileOf b (place b number)
+  unfolding pileOf
+  pile-is = ap (bodyView (desks b) b) begins
 
-  pub rights-there : (s : Side) → rightsIn s n n start b i ≡ rights n (pileOf b (place b number)) s i
-  unfolding rightsIn pileOf
-  rights-there s = rw (and-both there (lt-ltb _ _ (found-desk i b number found)), start-found)
+  body-sound : SoundBody i b start
+  body-sound =
+      record {
+        long = book .long;
+        desk = found-desk i b number found;
+        body =
+            record {
+              desks-most = book .sizes .desks-most;
+              within = omega (arith, begins, book .sized, body-within (desks b) (piles b) (place b number) (found-place i b number found));
+            };
+        passes = rw pile-is (book .bodies (place b number) (found-place i b number found));
+      }
 
-  pub rights-small : (s : Side) {x : ℕ} → x ≡ rightsIn s n n start b i → x ≤ topLimit
-  rights-small s e = rw (e, rights-there s) (rights-most n (pileOf b (place b number)) pile-found s i (found-desk i b number found))
+  pub rights-there : (s : Side) → rightsIn s (desks b) start b i ≡ rights (desks b) (pileOf b (place b number)) s i
+  rights-there s = rw (← pile-is) (rights-read i b body-sound s refl)
 
-  pub rights-reply : (s : Side) {x : ℕ} → x ≡ rightsIn s n n start b i → value x ≡ rightsReply s i b number
+-- what `seek` tells of a number; a refusal is all that its reply has, whatever stands at the start
+module _ (i : ℕ) (b : List ℕ) (number : ℕ) {m start : ℕ} (told : (m ≡ deskAnswer i b number) × (start ≡ deskStart i b number)) where
+  found : m ≡ 0 → deskAnswer i b number ≡ 0
+  found z = sym (told .0) ∙ z
+
+  pub sought-sound : m ≡ 0 → SoundBody i b start
+  sought-sound z = body-sound i b number (found z) (told .1)
+
+  pub sought-reply : (f : Pile → ℕ) → reply m (f (bodyView (desks b) b start)) ≡ reply (deskAnswer i b number) (f (pileOf b (place b number)))
+  sought-reply f =
+      by-cases (ℕ-discrete m 0) (λ z. rw (told .0, pile-is i b number (found z) (told .1)))
+      (λ d. rw (← told .0) (sym (reply-refused m _ d) ∙ reply-refused m _ d))
+
+  pub rights-reply : (s : Side) → reply m (rights (desks b) (bodyView (desks b) b start) s i) ≡ rightsReply s i b number
   unfolding rightsReply
-  rights-reply s e = ap value (e ∙ rights-there s) ∙ reply-value _ _ found
+  rights-reply s = sought-reply (λ p. rights (desks b) p s i)
 
-  tonnage-there : tonnageIn n n start b ≡ tonnage n (pileOf b (place b number))
-  unfolding tonnageIn pileOf
-  tonnage-there = rw (there, start-found)
-
-  pub tonnage-small : {x : ℕ} → x ≡ tonnageIn n n start b → x ≤ topLimit
-  tonnage-small e =
-      rw (e, tonnage-there) (omega (arith, tonnage-within n (pileOf b (place b number)) pile-found .1, pile-found .opening .top-limit))
-
-module _ (b : List ℕ) (number : ℕ) (found : deskAnswer 0 b number ≡ 0) {start : ℕ} (is : start ≡ deskStart 0 b number) where
-  pub tonnage-reply : {x : ℕ} → x ≡ tonnageIn (desks b) (desks b) start b → value x ≡ tonnageReply b number
+module _ (b : List ℕ) (number : ℕ) {m start : ℕ} (told : (m ≡ deskAnswer 0 b number) × (start ≡ deskStart 0 b number)) where
+  pub tonnage-reply : reply m (tonnage (desks b) (bodyView (desks b) b start)) ≡ tonnageReply b number
   unfolding tonnageReply
-  tonnage-reply e = ap value (e ∙ tonnage-there 0 b number found is) ∙ reply-value _ _ (sym (desk-0-fetch b number) ∙ found)
+  tonnage-reply = rw (← desk-0-fetch b number) (sought-reply 0 b number told (tonnage (desks b)))

@@ -1,4 +1,3 @@
-pub mod Pieces
 pub mod Rising
 pub mod Passed
 pub mod Lengths

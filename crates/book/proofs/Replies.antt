@@ -4,13 +4,11 @@ use Prim.Native.Nat.{ℕ, _<_}
 use mathlib.Core.Path.{_≡_, ap, sym, subst⁻¹, _∙_}
 use mathlib.Core.Logic.{_≢_}
 use mathlib.Core.List.{List, []}
-use Rattle.rules.specs.Refusals.{refused}
 use Rattle.rules.specs.Numbers.{part}
-use Rattle.rules.specs.Pile.{Side}
 use Rattle.rules.specs.Layout.{bodyLength, bodyAt, desks, piles, position, pileOf}
-use Rattle.rules.specs.Book.{bookAnswer, place, fetchAnswer, deskAnswer, bodyPart, bodyStart, tonnageReply, rightsReply}
+use Rattle.rules.specs.Book.{bookAnswer, place, fetchAnswer, deskAnswer, bodyPart, bodyStart}
 use Rattle.rules.specs.Record.{Record, zeroRecord, recordOf, fetched, deskRecord, deskStart}
-use Rattle.rules.proofs.Loops.Refusals.{when-accepted, when-refused, reply-refused}
+use Rattle.rules.proofs.Loops.Refusals.{when-accepted, when-refused}
 use Rattle.rules.proofs.File.Found.{found-readable, found-place, desk-0-fetch}
 use Rattle.rules.proofs.File.Refused.{body-refused}
 use Rattle.rules.proofs.Record.OfBody.{found-record, found-start}
@@ -33,10 +31,6 @@ module _ (i : ℕ) (b : List ℕ) (number : ℕ) {m : ℕ} (answer : m ≡ deskA
     pub record-zero : zeroRecord ≡ deskRecord i b number
     unfolding deskRecord
     record-zero = sym (when-refused _ _ _ not-found)
-
-    pub rights-refused : (s : Side) → refused m ≡ rightsReply s i b number
-    unfolding rightsReply
-    rights-refused s = rw (← answer) (reply-refused m _ d)
 
   -- the pile was found
   module _ (z : m ≡ 0) where
@@ -74,10 +68,6 @@ module _ (b : List ℕ) (number : ℕ) {m : ℕ} (answer : m ≡ deskAnswer 0 b 
     pub start-refused : 0 ≡ bodyStart b number
     unfolding bodyStart
     start-refused = sym (when-refused _ _ _ not-fetched)
-
-    pub tonnage-refused : refused m ≡ tonnageReply b number
-    unfolding tonnageReply
-    tonnage-refused = rw (← fetch-is) (reply-refused m _ d)
 
   module _ (z : m ≡ 0) where
     fetchable : fetchAnswer b number ≡ 0

@@ -12,6 +12,7 @@ mod same;
 mod save;
 
 use audit::tonnage_in;
+use find::Found;
 use find::find;
 use front::put_bodies;
 use front::put_front;
@@ -166,8 +167,8 @@ pub fn seek(book: &[u8], desk: u8, number: u16) -> Sought
     ensures answer { λ r. ⌜ r .answer ≡ deskAnswer desk (now (book .entry)) number ⌝ }
     ensures start { λ r. ⌜ r .start ≡ deskStart desk (now (book .entry)) number ⌝ }
 {
-    let pile = find(book, desk, number);
-    let refusal = pile.answer;
+    let found: Found = find(book, desk, number);
+    let refusal = found.answer;
     if refusal != 0 {
         return Sought {
             answer: refusal,
@@ -176,7 +177,7 @@ pub fn seek(book: &[u8], desk: u8, number: u16) -> Sought
     }
     let n = book[1] as usize;
     let p = book[2] as usize;
-    let k = pile.place;
+    let k = found.place;
     Sought {
         answer: 0,
         start: body_at(n, p, k),
@@ -232,19 +233,19 @@ pub fn tonnage(book: &[u8], number: u16) -> Amount
     }
     let n = book[1] as usize;
     let start = found.start;
-    Amount::Tonnes(tonnage_in(book, start, n, n) as u32)
+    Amount::Tonnes(tonnage_in(book, start, n) as u32)
 }
 
 // A desk's draw rights of a pile; refused with 1 to 7, 11 or 10.
 pub fn draw_rights(book: &[u8], desk: u8, number: u16) -> Amount
     ensures { λ r. ⌜ asReply r ≡ rightsReply draw desk (now (book .entry)) number ⌝ }
 {
-    rights_of(book, 0, desk, number)
+    rights_of(book, 0, desk, seek(book, desk, number))
 }
 
 // A desk's tip rights of a pile; refused with 1 to 7, 11 or 10.
 pub fn tip_rights(book: &[u8], desk: u8, number: u16) -> Amount
     ensures { λ r. ⌜ asReply r ≡ rightsReply tip desk (now (book .entry)) number ⌝ }
 {
-    rights_of(book, 1, desk, number)
+    rights_of(book, 1, desk, seek(book, desk, number))
 }

@@ -1,21 +1,26 @@
-// Rights of a desk. The side is a parameter: 0 for draw and 1 for tip.
-use crate::seek;
+// Rights of a desk. The side is a parameter: 0 for draw, any other for tip.
+use crate::Sought;
 use audit::rights_in;
 use pile::Amount;
 ghost use mathlib.Core.Path.{_≡_};
-ghost use Rattle.rules.specs.Book.{rightsReply};
+ghost use Rattle.rules.specs.Refusals.{reply};
+ghost use Rattle.rules.specs.Pile.{rights};
+ghost use Rattle.rules.specs.Layout.{desks, bodyView};
 ghost use Rattle.pile.specs.View.{sideOf};
 ghost use Rattle.pile.specs.Replies.{asReply};
+ghost use Rattle.book.specs.Within.{SoundBody};
 
-pub(crate) fn rights_of(book: &[u8], side: u8, desk: u8, number: u16) -> Amount
-    ensures { λ r. ⌜ asReply r ≡ rightsReply (sideOf side) desk (now (book .entry)) number ⌝ }
+// By the body that `seek` has found. It is sought by the callers: with that in it the function is too long to be inlined, and its answer goes through memory.
+pub(crate) fn rights_of(book: &[u8], side: u8, desk: u8, found: Sought) -> Amount
+    requires { ⌜ (found .answer ≡ 0 → SoundBody desk (now book) (found .start)) ⌝ }
+    ensures { λ r. ⌜ asReply r ≡ reply (found .answer)
+        (rights (desks (now (book .entry))) (bodyView (desks (now (book .entry))) (now (book .entry)) (found .start)) (sideOf side) desk) ⌝ }
 {
-    let found = seek(book, desk, number);
     let refusal = found.answer;
     if refusal != 0 {
         return Amount::Refused(refusal);
     }
     let n = book[1] as usize;
     let start = found.start;
-    Amount::Tonnes(rights_in(book, start, n, n, side, desk) as u32)
+    Amount::Tonnes(rights_in(book, start, n, side, desk) as u32)
 }

@@ -17,7 +17,7 @@ pub(crate) fn bodies_answer(book: &[u8], n: u8, p: usize) -> u8
     ensures { λ r. ⌜ r ≡ first p (λ k. pileAnswer n (bodyView n (now (book .entry)) (bodyAt n p k))) ⌝ }
 {
     let desks = n as usize;
-    check_bodies(book, front_length(p), desks, desks, p)
+    check_bodies(book, front_length(p), desks, p)
 }
 
 // A book's own answer: head, length and contents, and then its bodies.

@@ -4,22 +4,22 @@ use Prim.Native.Nat.{ℕ, _+_, _≤_, _<_}
 use native.Mathlib.Decide.{ℕ-discrete}
 use native.Mathlib.Omega.{arith}
 use mathlib.Core.Path.{_≡_, ap, sym, _∙_}
-use mathlib.Core.Logic.{_≢_, by-cases}
+use mathlib.Core.Logic.{by-cases}
 use mathlib.Core.List.{List}
 use borrow.Author.Tests.{ltb-true}
 use Rattle.rules.specs.Refusals.{refused, value, reply}
-use Rattle.rules.specs.Numbers as numbers
+use Rattle.rules.specs.Numbers.{number}
 use Rattle.rules.specs.Pile.{Side, Pile, rights}
-use Rattle.rules.specs.Layout.{cellAt, desks, pileOf}
-use Rattle.rules.specs.Book.{place, deskAnswer}
+use Rattle.rules.specs.Layout.{cellAt, bodyView, desks}
+use Rattle.rules.specs.Book.{deskAnswer}
 use Rattle.rules.specs.Record.{Record, recordView, recordAnswer, recordDeskAnswer, recordRightsReply, deskStart}
-use Rattle.rules.specs.Bounds.{boundReply, recordBoundReply}
+use Rattle.rules.specs.Bounds.{bound, boundReply, recordBoundReply}
 use Rattle.rules.proofs.Loops.Refusals.{orElse-first, orElse-rest, when-not-done, reply-refused, reply-value}
-use Rattle.rules.proofs.File.Found.{found-desk}
 use Rattle.rules.proofs.Record.Facts.{record-facts}
 use Rattle.rules.proofs.Record.Bounds.{rights-room}
 use Rattle.audit.specs.Audits.{rightsIn}
-use Rattle.book.proofs.Bodies.{pile-found, start-found, rights-there}
+use Rattle.book.specs.Within.{SoundBody}
+use Rattle.book.proofs.Bodies.{pile-sound, rights-read, sought-reply}
 use Rattle.bounds.specs.Kept.{kept}
 use Rattle.bounds.proofs.Kept.{kept-bound}
 
@@ -63,35 +63,28 @@ module _ (r : Record) (s : Side) (i : ℕ) where
         ap value (is ∙ ap (kept s (r .floor) (r .top)) (rights-told .1) ∙ kept-bound (r .n) (recordView r) s i)
         ∙ reply-value _ _ (rights-told .0)
 
--- of a book
-module _ (i : ℕ) (b : List ℕ) (number : ℕ) {m : ℕ} (answer : m ≡ deskAnswer i b number) where
-  pub book-refused : m ≢ 0 → (s : Side) → refused m ≡ boundReply s i b number
+-- of a book: the opening and the rights that were read of a sound body
+module _ (i : ℕ) (b : List ℕ) {at : ℕ} (sound : SoundBody i b at) (s : Side) {floor top x : ℕ} (floor-is : floor ≡ number 4 b at)
+    (top-is : top ≡ number 4 b (at + 4)) (rights-are : x ≡ rightsIn s (desks b) at b i) where
+  abbrev P : Pile
+  P = bodyView (desks b) b at
+
+  floor-read : floor ≡ P .floor
+  unfolding cellAt
+  floor-read = floor-is ∙ ap (number 4 b) (omega arith)
+
+  top-read : top ≡ P .top
+  unfolding cellAt
+  top-read = top-is ∙ ap (number 4 b) (omega arith)
+
+  pub room-read : floor + x ≤ top
+  room-read = rw (floor-read, top-read, rights-read i b sound s rights-are) (rights-room (desks b) P (pile-sound i b sound) s i (sound .desk))
+
+  pub bound-read : {y : ℕ} → y ≡ kept s floor top x → y ≡ bound (desks b) P s i
+  bound-read is = is ∙ rw (floor-read, top-read, rights-read i b sound s rights-are) (kept-bound (desks b) P s i)
+
+-- and what `seek` tells of a number
+module _ (i : ℕ) (b : List ℕ) (number : ℕ) {m start : ℕ} (told : (m ≡ deskAnswer i b number) × (start ≡ deskStart i b number)) where
+  pub bound-reply : (s : Side) → reply m (bound (desks b) (bodyView (desks b) b start) s i) ≡ boundReply s i b number
   unfolding boundReply
-  book-refused d s = rw (← answer) (reply-refused m _ d)
-
-  -- the opening and the rights that were read of the body found
-  module _ (z : m ≡ 0) {start : ℕ} (is : start ≡ deskStart i b number) (s : Side) {floor top x : ℕ} (floor-is : floor ≡ numbers.number 4 b start) (top-is : top ≡ numbers.number 4 b (start + 4))
-      (rights-are : x ≡ rightsIn s (desks b) (desks b) start b i) where
-    found : deskAnswer i b number ≡ 0
-    found = sym answer ∙ z
-
-    abbrev P : Pile
-    P = pileOf b (place b number)
-
-    floor-read : floor ≡ P .floor
-    unfolding pileOf cellAt
-    floor-read = floor-is ∙ ap (numbers.number 4 b) (omega (arith, start-found i b number found is))
-
-    top-read : top ≡ P .top
-    unfolding pileOf cellAt
-    top-read = top-is ∙ ap (numbers.number 4 b) (omega (arith, start-found i b number found is))
-
-    rights-read : x ≡ rights (desks b) P s i
-    rights-read = rights-are ∙ rights-there i b number found is s
-
-    pub room-found : floor + x ≤ top
-    room-found = rw (floor-read, top-read, rights-read) (rights-room (desks b) P (pile-found i b number found is) s i (found-desk i b number found))
-
-    pub bound-found : value (kept s floor top x) ≡ boundReply s i b number
-    unfolding boundReply
-    bound-found = ap value (rw (floor-read, top-read, rights-read) (kept-bound (desks b) P s i)) ∙ reply-value _ _ found
+  bound-reply s = sought-reply i b number told (λ p. bound (desks b) p s i)

@@ -1,5 +1,5 @@
 // The bound that a desk's rights of a side keep: nobody else can draw what it may draw, nor fill the space that it may fill. The side is a parameter:
-// 0 for draw and 1 for tip.
+// 0 for draw, any other for tip.
 use pile::PLACES;
 ghost use mathlib.Core.Path.{_≡_};
 ghost use Prim.Native.Nat.{ℕ, _+_, _≤_, _<_};

@@ -2,6 +2,7 @@
 mod bound;
 mod queries;
 
+use book::seek;
 use bound::bounds_of;
 use pile::Amount;
 use pile::Holdings;
@@ -67,12 +68,12 @@ pub fn pile_bounds(pile: Pile) -> Bounded
 pub fn least(book: &[u8], desk: u8, number: u16) -> Amount
     ensures { λ r. ⌜ asReply r ≡ boundReply draw desk (now (book .entry)) number ⌝ }
 {
-    book_bound(book, 0, desk, number)
+    book_bound(book, 0, desk, seek(book, desk, number))
 }
 
 // The most that a pile has, as far as a desk can be sure; refused with 1 to 7, 11 or 10.
 pub fn most(book: &[u8], desk: u8, number: u16) -> Amount
     ensures { λ r. ⌜ asReply r ≡ boundReply tip desk (now (book .entry)) number ⌝ }
 {
-    book_bound(book, 1, desk, number)
+    book_bound(book, 1, desk, seek(book, desk, number))
 }

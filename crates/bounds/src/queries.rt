@@ -1,15 +1,18 @@
-// The bound of one desk, asked of a record and of a book. The side is a parameter: 0 for draw and 1 for tip.
+// The bound of one desk, asked of a record and of a book. The side is a parameter: 0 for draw, any other for tip.
 use crate::bound::bound_of;
 use audit::rights_in;
-use book::seek;
+use book::Sought;
 use number::get4;
 use pile::Amount;
 use pile::Pile;
 ghost use mathlib.Core.Path.{_≡_};
+ghost use Rattle.rules.specs.Refusals.{reply};
+ghost use Rattle.rules.specs.Layout.{desks, bodyView};
 ghost use Rattle.rules.specs.Record.{recordRightsReply};
-ghost use Rattle.rules.specs.Bounds.{boundReply, recordBoundReply};
+ghost use Rattle.rules.specs.Bounds.{bound, recordBoundReply};
 ghost use Rattle.pile.specs.View.{asRecord, sideOf};
 ghost use Rattle.pile.specs.Replies.{asReply};
+ghost use Rattle.book.specs.Within.{SoundBody};
 
 // The rights that keep the bound.
 fn rights_of(pile: Pile, side: u8, desk: u8) -> Amount
@@ -31,17 +34,19 @@ pub(crate) fn record_bound(pile: Pile, side: u8, desk: u8) -> Amount
     }
 }
 
-// The rights and the opening of the body that a desk's call finds reply as the book does.
-pub(crate) fn book_bound(book: &[u8], side: u8, desk: u8, number: u16) -> Amount
-    ensures { λ r. ⌜ asReply r ≡ boundReply (sideOf side) desk (now (book .entry)) number ⌝ }
+// By the rights and the opening of the body that `seek` has found. It is sought by the callers, as for the rights: with that in it the function is too long
+// to be inlined.
+pub(crate) fn book_bound(book: &[u8], side: u8, desk: u8, found: Sought) -> Amount
+    requires { ⌜ (found .answer ≡ 0 → SoundBody desk (now book) (found .start)) ⌝ }
+    ensures { λ r. ⌜ asReply r ≡ reply (found .answer)
+        (bound (desks (now (book .entry))) (bodyView (desks (now (book .entry))) (now (book .entry)) (found .start)) (sideOf side) desk) ⌝ }
 {
-    let found = seek(book, desk, number);
     let refusal = found.answer;
     if refusal != 0 {
         return Amount::Refused(refusal);
     }
     let n = book[1] as usize;
     let start = found.start;
-    let rights = rights_in(book, start, n, n, side, desk) as u32;
+    let rights = rights_in(book, start, n, side, desk) as u32;
     Amount::Tonnes(bound_of(side, get4(book, start), get4(book, start + 4), rights))
 }

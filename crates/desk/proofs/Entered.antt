@@ -48,7 +48,7 @@ module _ (i : ℕ) (a : Act) (b : List ℕ) where
         by-kind (spend s) = refl
         by-kind (give s j) = refl
 
-    pub lines-answer : {wrong : Bool} {left m : ℕ} → wrong ≡ receiverWrong (desks b) i (a .kind) → left ≡ rightsIn (side (a .kind)) (desks b) (desks b) start b i
+    pub lines-answer : {wrong : Bool} {left m : ℕ} → wrong ≡ receiverWrong (desks b) i (a .kind) → left ≡ rightsIn (side (a .kind)) (desks b) start b i
         → m ≡ 12 when wrong orElse 13 when (eqb (a .amount) 0 or ltb amountLimit (a .amount)) orElse 14 when ltb left (a .amount) orElse 15 when ltb tallyLimit (x + a .amount)
         → m ≡ actAnswer i a b
     unfolding actAnswer actRefusal

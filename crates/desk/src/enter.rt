@@ -36,7 +36,7 @@ pub(crate) fn enter(book: &mut [u8], desk: u8, number: u16, kind: Kind, amount: 
     let start = found.start;
     let at = start + cell_at(n, desk, kind);
     let tally = get4(book, at);
-    let rights = rights_in(book, start, n as usize, n as usize, side_of(kind), desk);
+    let rights = rights_in(book, start, n as usize, side_of(kind), desk);
     let answer = act_refusal(receiver_wrong_for(n, desk, kind), amount, rights, tally);
     if answer != 0 {
         return answer;

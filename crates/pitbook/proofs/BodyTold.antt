@@ -13,7 +13,7 @@ use Rattle.rules.proofs.File.Found.{found-readable, found-place}
 use Rattle.rules.proofs.Record.OfBody.{found-start}
 use Rattle.book.proofs.Replies.{fetch-is}
 use Rattle.pitbook.specs.Queries.{startOr, lengthOr}
-use Rattle.pitbook.proofs.Left.{stays, becomes}
+use Rattle.rules.proofs.Loops.Left.{stays, becomes}
 
 module _ (b : List ℕ) (number : ℕ) {m : ℕ} (answer : m ≡ deskAnswer 0 b number) where
   pub told-nothing : m ≢ 0 → (start length : ℕ) → (m ≡ fetchAnswer b number) × ((start ≡ startOr b number start) × (length ≡ lengthOr b number length))

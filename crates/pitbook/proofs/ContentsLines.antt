@@ -10,7 +10,7 @@ use Rattle.rules.specs.Layout.{piles, pileNumber, position}
 use Rattle.rules.specs.Book.{bookAnswer}
 use Rattle.rules.proofs.File.Contents.{contents-own, contents-8, contents-0}
 use Rattle.pitbook.specs.Contents.{listsAnswer, filled, afterNumbers, afterPositions}
-use Rattle.pitbook.proofs.Left.{stays, becomes}
+use Rattle.rules.proofs.Loops.Left.{stays, becomes}
 
 module _ (b numbers positions : List ℕ) where
   abbrev Leaves : ℕ → List ℕ → List ℕ → Type 0

@@ -1,4 +1,3 @@
-pub mod Left
 pub mod Filling
 pub mod ContentsLines
 pub mod BodyTold

@@ -17,7 +17,7 @@ use Rattle.rules.proofs.Loops.Refusals.{own-refusal}
 use Rattle.rules.proofs.Loops.Parts.{length-part}
 use Rattle.rules.proofs.Loops.Sets.{sets-then, sets-to-end}
 use Rattle.pitbook.specs.Numbers.{sharesAt, talliesAt, recordLength, recordNumbers, numbersRecord, fetchNumbersAnswer, afterFetchNumbers}
-use Rattle.pitbook.proofs.Left.{stays, becomes}
+use Rattle.rules.proofs.Loops.Left.{stays, becomes}
 
 module _ (out : List ℕ) (r : Record) (shares : length (r .shares) ≡ sharePlaces) (tallies : length (r .tallies) ≡ tallyPlaces) where
   pub three-runs : {one two three : List ℕ} → one ≡ sets out 0 (r .n ∷ r .floor ∷ r .top ∷ []) → two ≡ sets one sharesAt (part 0 sharePlaces (r .shares))

@@ -16,7 +16,7 @@ use Rattle.rules.specs.Record.{Record, recordAnswer, storeAnswer, afterStore}
 use Rattle.rules.proofs.Loops.Refusals.{own-refusal, orElse-first, orElse-rest, when-refused}
 use Rattle.rules.proofs.File.Refused.{store-refused}
 use Rattle.pitbook.specs.Numbers.{recordLength, numbersRecord, storeNumbersAnswer, afterStoreNumbers, desksOf, asStored}
-use Rattle.pitbook.proofs.Left.{stays, becomes}
+use Rattle.rules.proofs.Loops.Left.{stays, becomes}
 
 module _ (r : Record) where
   stored-same : r .n ≤ deskLimit → asStored r ≡ r

@@ -1,8 +1,9 @@
 -- Loops and lists: nothing here knows the book.
--- Read Logic, Every and Refusals for what a test or an answer tells; Sums and Counts; then Ranges, Pieces, Parts, Sets and Partly for lists made of pieces.
+-- Read Logic, Every, Refusals and Left for what a test or an answer tells; Sums and Counts; then Ranges, Pieces, Parts, Sets, Partly and Writing for lists made of pieces.
 pub mod Logic
 pub mod Every
 pub mod Refusals
+pub mod Left
 pub mod Sums
 pub mod Counts
 pub mod Ranges
@@ -11,3 +12,4 @@ pub mod Parts
 pub mod Sets
 pub mod Arrays
 pub mod Partly
+pub mod Writing

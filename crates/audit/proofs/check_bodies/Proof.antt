@@ -16,11 +16,11 @@ use Rattle.audit.proofs.check_bodies.Statement.{statement}
 use Rattle.audit.proofs.check_bodies.Tie as tie
 
 abbrev Inv-loop : tie.InvT-loop
-Inv-loop bytes from w n p shape size at₀ k₀ at k =
-    (k ≤ p) × (at ≡ from + k * bodyLength w) × (first k (λ j. pileAnswer n (bodyOf w bytes from j)) ≡ 0)
+Inv-loop bytes from n p shape size at₀ k₀ at k =
+    (k ≤ p) × (at ≡ from + k * bodyLength n) × (first k (λ j. pileAnswer n (bodyOf n bytes from j)) ≡ 0)
 
 abbrev μ-loop : tie.MeasureT-loop
-μ-loop bytes from w n p shape size at₀ k₀ at k = p - k
+μ-loop bytes from n p shape size at₀ k₀ at k = p - k
 
 -- back through the calls
 abbrev entry : tie.Else1 Inv-loop μ-loop → tie.Start Inv-loop μ-loop
@@ -36,15 +36,15 @@ abbrev asked : tie.After-tip-given2 Inv-loop μ-loop → tie.After-body-answer I
 asked c = c .before .before .before .before
 
 -- the bodies have the shape
-shape-is : (c : tie.Else1 Inv-loop μ-loop) → let a = entry c .args in shapeAnswer (a .w) (a .n) (a .p) (a .from) (length (a .bytes .now)) ≡ 0
+shape-is : (c : tie.Else1 Inv-loop μ-loop) → let a = entry c .args in shapeAnswer (a .n) (a .p) (a .from) (length (a .bytes .now)) ≡ 0
 shape-is c = sym (c .before .shape-answer .ensures) ∙ c .if1 .left
 
-square : (c : tie.Else1 Inv-loop μ-loop) → (entry c .args .w + 1) * (entry c .args .w + 1) ≤ 81
-square c = square-small (shaped _ _ _ _ _ (shape-is c) .2)
+square : (c : tie.Else1 Inv-loop μ-loop) → (entry c .args .n + 1) * (entry c .args .n + 1) ≤ 81
+square c = square-small (shaped _ _ _ _ (shape-is c) .0)
 
 -- the body of this turn lies within the bytes
-within : (c : tie.In-loop Inv-loop μ-loop) → let a = start c .args in BodyIn (a .w) (a .n) (c .before .loop .at) (a .bytes .now)
-within c = let a = start c .args in body-in (a .w) (a .n) (a .p) (a .from) (a .bytes .now) (shape-is (c .before .before)) (c .loop-test .taken) (c .before .loop .inv .1)
+within : (c : tie.In-loop Inv-loop μ-loop) → let a = start c .args in BodyIn (a .n) (c .before .loop .at) (a .bytes .now)
+within c = let a = start c .args in body-in (a .n) (a .p) (a .from) (a .bytes .now) (shape-is (c .before .before)) (c .loop-test .taken) (c .before .loop .inv .1)
 
 shape-answer-requires : tie.Need-shape-answer-requires Inv-loop μ-loop
 shape-answer-requires c κs = search needs
@@ -52,13 +52,13 @@ shape-answer-requires c κs = search needs
 returns : tie.Need-returns Inv-loop μ-loop
 returns c =
     let a = c .before .before .before .args in
-    shape-refused (a .w) (a .n) (a .p) (a .from) (a .bytes .now) (c .before .shape-answer .ensures) (c .if1 .taken)
+    shape-refused (a .n) (a .p) (a .from) (a .bytes .now) (c .before .shape-answer .ensures) (c .if1 .taken)
 
 add-size : tie.Need-add-size Inv-loop μ-loop
-add-size c = search (needs, shaped _ _ _ _ _ (shape-is c) .2)
+add-size c = search (needs, shaped _ _ _ _ (shape-is c) .0)
 
 add-size-2 : tie.Need-add-size-2 Inv-loop μ-loop
-add-size-2 c = search (needs, shaped _ _ _ _ _ (shape-is c) .2)
+add-size-2 c = search (needs, shaped _ _ _ _ (shape-is c) .0)
 
 mul-size : tie.Need-mul-size Inv-loop μ-loop
 mul-size c = search (needs, square c)
@@ -91,7 +91,7 @@ returns-2 c =
     let now = turn (ask .before) in
     let a = start now .args in
     let loop = now .before .loop in
-    body-refused (a .w) (a .n) (a .p) (a .from) (a .bytes .now) (shape-is (now .before .before)) (loop .k) (now .loop-test .taken) (loop .inv .2) (loop .inv .1)
+    body-refused (a .n) (a .p) (a .from) (a .bytes .now) (shape-is (now .before .before)) (loop .k) (now .loop-test .taken) (loop .inv .2) (loop .inv .1)
     (ask .body-answer .ensures .0) (c .if2 .taken)
 
 add-at : tie.Need-add-at Inv-loop μ-loop
@@ -113,7 +113,7 @@ loop-again c =
     let loop = now .before .loop in (
       search needs,
       omega (arith, loop .inv .1),
-      body-passed (a .w) (a .n) (a .p) (a .from) (a .bytes .now) (loop .k) (loop .inv .2) (loop .inv .1) (ask .body-answer .ensures .0) (c .if2 .left),
+      body-passed (a .n) (a .p) (a .from) (a .bytes .now) (loop .k) (loop .inv .2) (loop .inv .1) (ask .body-answer .ensures .0) (c .if2 .left),
     )
 
 returns-3 : tie.Need-returns-3 Inv-loop μ-loop
@@ -122,7 +122,7 @@ returns-3 c =
     let a = entry (at .before) .args in
     let done : at .loop .k ≡ a .p = omega arith in
     let inv = rw done at (at .loop .inv) in
-    sym (none-refused (a .w) (a .n) (a .p) (a .from) (a .bytes .now) (shape-is (at .before)) (inv .2))
+    sym (none-refused (a .n) (a .p) (a .from) (a .bytes .now) (shape-is (at .before)) (inv .2))
 
 pub check-bodies-spec : {M : Type 1} → statement M
 check-bodies-spec =

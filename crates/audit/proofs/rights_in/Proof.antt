@@ -15,25 +15,25 @@ use Rattle.audit.proofs.rights_in.Statement.{statement}
 use Rattle.audit.proofs.rights_in.Tie as tie
 
 -- the body is there
-there : (c : tie.Else1) → let a = c .before .before .before .args in bodyThere (a .w) (a .n) (a .at) (length (a .bytes .now)) ≡ true
+there : (c : tie.Else1) → let a = c .before .before .before .args in bodyThere (a .n) (a .at) (length (a .bytes .now)) ≡ true
 there c = holds (c .before .body-there .ensures) (c .if1 .left)
 
 -- the answer of a side, for the side of a number
 answer : {x : ℕ} (c : tie.Else2) → let a = c .before .before .before .before .args in (s : Side) → s ≡ sideOf (a .side)
-    → x ≡ rights (a .n) (bodyView (a .w) (a .bytes .now) (a .at)) s (a .desk) → x ≡ rightsIn (sideOf (a .side)) (a .w) (a .n) (a .at) (a .bytes .now) (a .desk)
+    → x ≡ rights (a .n) (bodyView (a .n) (a .bytes .now) (a .at)) s (a .desk) → x ≡ rightsIn (sideOf (a .side)) (a .n) (a .at) (a .bytes .now) (a .desk)
 answer c s side e =
     let a = c .before .before .before .before .args in
-    e ∙ desk-there s (a .w) (a .n) (a .at) (a .bytes .now) (a .desk) (there (c .before)) (c .if2 .left)
-    ∙ ap (λ (s : Side). rightsIn s (a .w) (a .n) (a .at) (a .bytes .now) (a .desk)) side
+    e ∙ desk-there s (a .n) (a .at) (a .bytes .now) (a .desk) (there (c .before)) (c .if2 .left)
+    ∙ ap (λ (s : Side). rightsIn s (a .n) (a .at) (a .bytes .now) (a .desk)) side
 
 body-there-requires : tie.Need-body-there-requires
 body-there-requires c κs = search needs
 
 returns : tie.Need-returns
-returns c = no-body _ _ _ _ _ _ (fails (c .before .body-there .ensures) (c .if1 .taken))
+returns c = no-body _ _ _ _ _ (fails (c .before .body-there .ensures) (c .if1 .taken))
 
 returns-2 : tie.Need-returns-2
-returns-2 c = no-desk _ _ _ _ _ _ (c .if2 .taken)
+returns-2 c = no-desk _ _ _ _ _ (c .if2 .taken)
 
 left-of-requires : tie.Need-left-of-requires
 left-of-requires c κs = (search needs, c .before .if2 .left, there-in (there (c .before .before)))

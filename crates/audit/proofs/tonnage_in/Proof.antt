@@ -19,21 +19,20 @@ use Rattle.audit.proofs.tonnage_in.Tie as tie
 
 -- the body is there, and so is its opening
 module _ (c : tie.Else1) where
-  there : let a = c .before .before .before .args in bodyThere (a .w) (a .n) (a .at) (length (a .bytes .now)) ≡ true
+  there : let a = c .before .before .before .args in bodyThere (a .n) (a .at) (length (a .bytes .now)) ≡ true
   there = holds (c .before .body-there .ensures) (c .if1 .left)
 
-  body : let a = c .before .before .before .args in BodyIn (a .w) (a .n) (a .at) (a .bytes .now)
+  body : let a = c .before .before .before .args in BodyIn (a .n) (a .at) (a .bytes .now)
   body = there-in there
 
-  opening : let a = c .before .before .before .args in a .at + 8 * (a .w + 1) ≤ length (a .bytes .now)
-  unfolding rowLength
+  opening : let a = c .before .before .before .args in a .at + 8 * (a .n + 1) ≤ length (a .bytes .now)
   opening = opening-within body
 
 body-there-requires : tie.Need-body-there-requires
 body-there-requires c κs = search needs
 
 returns : tie.Need-returns
-returns c = no-tonnage _ _ _ _ (fails (c .before .body-there .ensures) (c .if1 .taken))
+returns c = no-tonnage _ _ _ (fails (c .before .body-there .ensures) (c .if1 .taken))
 
 add-row : tie.Need-add-row
 add-row c = search (needs, opening c)
@@ -65,7 +64,7 @@ add-sum-apart-4 c = search (needs, opening (c .before .before .before))
 sum-apart-requires-3 : tie.Need-sum-apart-requires-3
 sum-apart-requires-3 c κs =
     let on = c .before .before .before in
-    row-strided (body on) (omega (arith, opening on, body on .used))
+    row-strided (body on) (omega (arith, opening on))
 
 add-less : tie.Need-add-less
 add-less c = search needs
@@ -83,14 +82,14 @@ returns-2 c =
     let two = three .before .before in
     let on = two .before .before in
     let a = on .before .before .before .args in
-    let floor : a .at ≡ a .at + (0 * rowLength (a .w) + 0 * 4) = omega arith in
+    let floor : a .at ≡ a .at + (0 * rowLength (a .n) + 0 * 4) = omega arith in
     c .less .ensures
-    ∙ tonnage-of (a .n) (bodyView (a .w) (a .bytes .now) (a .at))
+    ∙ tonnage-of (a .n) (bodyView (a .n) (a .bytes .now) (a .at))
     (three .before .word .ensures .0 ∙ ap (number 4 (a .bytes .now)) floor)
-    (share-sum (a .w) (a .n) (a .at) (a .bytes .now) draw (three .sum-apart3 .ensures .0) (omega arith))
-    (earned-sum (a .w) (a .n) (a .at) (a .bytes .now) draw (two .before .sum-apart .ensures .0) (omega arith))
-    (earned-sum (a .w) (a .n) (a .at) (a .bytes .now) tip (two .sum-apart2 .ensures .0) (omega arith))
-    ∙ tonnage-there (a .w) (a .n) (a .at) (a .bytes .now) (there on)
+    (share-sum (a .n) (a .at) (a .bytes .now) draw (three .sum-apart3 .ensures .0) (omega arith))
+    (earned-sum (a .n) (a .at) (a .bytes .now) draw (two .before .sum-apart .ensures .0) (omega arith))
+    (earned-sum (a .n) (a .at) (a .bytes .now) tip (two .sum-apart2 .ensures .0) (omega arith))
+    ∙ tonnage-there (a .n) (a .at) (a .bytes .now) (there on)
 
 pub tonnage-in-spec : {M : Type 1} → statement M
 tonnage-in-spec =

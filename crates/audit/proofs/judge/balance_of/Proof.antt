@@ -11,18 +11,19 @@ use Rattle.rules.specs.Loops.{sum, every}
 use Rattle.rules.specs.Pile.{Pile, draw, tip, credit, debit, lawful}
 use Rattle.rules.specs.Layout.{bodyView}
 use Rattle.rules.proofs.Loops.Arrays.{sum-next}
-use Rattle.audit.proofs.Account.{row-in, earned-at, credit-at, debit-at, covers, cleared, kept, covered-next}
+use Rattle.audit.proofs.Places.{earned-at, row-within}
+use Rattle.audit.proofs.Account.{credit-at, debit-at, covers, cleared, kept, covered-next}
 use borrow.Author.Needs.{needs}
 use Rattle.audit.proofs.judge.balance_of.Statement.{statement}
 use Rattle.audit.proofs.judge.balance_of.Tie as tie
 
 abbrev Inv-loop : tie.InvT-loop
-Inv-loop bytes at w n draws draw-given tips tip-given row covered₀ credits₀ i₀ covered credits i =
-    (i ≤ n) × (credits ≤ i * 200000000000) × (covered ≡ every i (covers n (bodyView w bytes at)))
-    × (credits ≡ sum i (λ k. credit n (bodyView w bytes at) draw k + credit n (bodyView w bytes at) tip k))
+Inv-loop bytes at n draws draw-given tips tip-given row covered₀ credits₀ i₀ covered credits i =
+    (i ≤ n) × (credits ≤ i * 200000000000) × (covered ≡ every i (covers n (bodyView n bytes at)))
+    × (credits ≡ sum i (λ k. credit n (bodyView n bytes at) draw k + credit n (bodyView n bytes at) tip k))
 
 abbrev μ-loop : tie.MeasureT-loop
-μ-loop bytes at w n draws draw-given tips tip-given row covered₀ credits₀ i₀ covered credits i = n - i
+μ-loop bytes at n draws draw-given tips tip-given row covered₀ credits₀ i₀ covered credits i = n - i
 
 -- from the loop's head, the entry; from a desk's two tallies, the loop's head; from a turn's end, the two tallies
 abbrev start : tie.At-loop Inv-loop μ-loop → tie.Start Inv-loop μ-loop
@@ -35,12 +36,12 @@ abbrev desk : tie.Joined2 Inv-loop μ-loop → tie.After-word2 Inv-loop μ-loop
 desk c = c .before .before .before .before .before .before
 
 abbrev P : tie.After-word2 Inv-loop μ-loop → Pile
-P c = let a = start (head c) .args in bodyView (a .w) (a .bytes .now) (a .at)
+P c = let a = start (head c) .args in bodyView (a .n) (a .bytes .now) (a .at)
 
 -- the desk's row lies in the bytes
 within : (c : tie.In-loop Inv-loop μ-loop) → let a = start (c .before) .args in
-    a .at + ((c .before .loop .i + 1) * (8 * (a .w + 1)) + 8 * (a .w + 1)) ≤ length (a .bytes .now)
-within c = row-in _ _ _ (start (c .before) .pre .0) (c .before .loop .i) (c .loop-test .taken)
+    a .at + (c .before .loop .i + 1) * (8 * (a .n + 1)) + 8 * (a .n + 1) ≤ length (a .bytes .now)
+within c = row-within (start (c .before) .pre .0) (c .loop-test .taken)
 
 -- its totals are small, so that no sum wraps
 most : (c : tie.After-word2 Inv-loop μ-loop) → let a = start (head c) .args in let i = head c .loop .i in
@@ -58,10 +59,10 @@ most c =
 
 -- what the desk drew and what it tipped
 drawn : (c : tie.After-word2 Inv-loop μ-loop) → c .word2 .result ≡ P c .earned tip (head c .loop .i)
-drawn c = earned-at _ _ _ tip (head c .loop .i) _ _ (c .word2 .ensures .0) (omega arith)
+drawn c = earned-at _ _ _ tip (head c .loop .i) (c .word2 .ensures .0) (omega arith)
 
 tipped : (c : tie.After-word2 Inv-loop μ-loop) → c .before .word .result ≡ P c .earned draw (head c .loop .i)
-tipped c = earned-at _ _ _ draw (head c .loop .i) _ _ (c .before .word .ensures .0) (omega arith)
+tipped c = earned-at _ _ _ draw (head c .loop .i) (c .before .word .ensures .0) (omega arith)
 
 add-row : tie.Need-add-row Inv-loop μ-loop
 add-row c = search needs

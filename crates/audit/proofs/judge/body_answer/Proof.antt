@@ -8,9 +8,10 @@ use lib.Dec.{leb, eqb}
 use Rattle.rules.specs.Loops.{_and_}
 use Rattle.rules.specs.Numbers.{number}
 use Rattle.rules.specs.Pile.{Pile, draw, tip, topLimit, openingLawful}
-use Rattle.rules.specs.Layout.{bodyView, rowLength, cellAt}
+use Rattle.rules.specs.Layout.{bodyView, cellAt}
 use Rattle.audit.proofs.Places.{opening-within}
-use Rattle.audit.proofs.Passing.{opened, shares-sum, empty-fits}
+use Rattle.audit.proofs.Passing.{opened, empty-fits}
+use Rattle.audit.proofs.DeskRights.{share-sum}
 use borrow.Author.Needs.{needs}
 use Rattle.audit.proofs.judge.body_answer.Statement.{statement}
 use Rattle.audit.proofs.judge.body_answer.Tie as tie
@@ -47,14 +48,10 @@ abbrev entry : tie.After-opening-sound → tie.Start
 entry c = at-first (shares-in (all-in (balanced c)))
 
 abbrev pile : tie.Start → Pile
-pile c = bodyView (c .args .w) (c .args .bytes .now) (c .args .at)
-
-desks : (c : tie.Start) → c .args .n ≤ 8
-desks c = omega (arith, c .pre .0 .used, c .pre .0 .desks-most)
+pile c = bodyView (c .args .n) (c .args .bytes .now) (c .args .at)
 
 -- the opening lies within the bytes
-within : (c : tie.Start) → c .args .at + 8 * (c .args .w + 1) ≤ length (c .args .bytes .now)
-unfolding rowLength
+within : (c : tie.Start) → c .args .at + 8 * (c .args .n + 1) ≤ length (c .args .bytes .now)
 within c = opening-within (c .pre .0)
 
 -- 5
@@ -65,8 +62,8 @@ opening-is c =
     let shares = shares-in (all-in (balanced c)) in
     let floor : c .before .before .word .result ≡ pile (entry c) .floor = c .before .before .word .ensures .0 ∙ ap (number 4 (a .bytes .now)) (omega arith) in
     let top : c .before .word2 .result ≡ pile (entry c) .top = c .before .word2 .ensures .0 ∙ ap (number 4 (a .bytes .now)) (omega arith) in
-    let d = shares-sum (a .w) (a .n) (a .at) (a .bytes .now) draw (omega arith) (draws-in (opening shares) .add-run .ensures .0 .0) in
-    let t = shares-sum (a .w) (a .n) (a .at) (a .bytes .now) tip (omega arith) (tips-in shares .add-run2 .ensures .0 .0) in
+    let d = share-sum (a .n) (a .at) (a .bytes .now) draw (draws-in (opening shares) .add-run .ensures .0 .0) (omega arith) in
+    let t = share-sum (a .n) (a .at) (a .bytes .now) tip (tips-in shares .add-run2 .ensures .0 .0) (omega arith) in
     c .opening-sound .ensures
     ∙ ap₂ (λ (x y : ℕ). leb x y and leb y topLimit and eqb (draws-in (opening shares) .add-run .result + tips-in shares .add-run2 .result) (y - x)) floor top
     ∙ ap₂ (λ (x y : ℕ). leb (pile (entry c) .floor) (pile (entry c) .top) and leb (pile (entry c) .top) topLimit and eqb (x + y) (pile (entry c) .top - pile (entry c) .floor)) d t
@@ -75,7 +72,7 @@ add-add-run : tie.Need-add-add-run
 add-add-run c = search (needs, within (start c))
 
 add-run-requires : tie.Need-add-run-requires
-add-run-requires c κs = let f = start (c .before) in empty-fits (f .pre .1 .0 .0) (desks f) (omega (arith, within f, f .pre .0 .used))
+add-run-requires c κs = let f = start (c .before) in empty-fits (f .pre .1 .0 .0) (f .pre .0 .desks-most) (omega (arith, within f))
 
 add-add-run-2 : tie.Need-add-add-run-2
 add-add-run-2 c = search (needs, within (start (draws-in c .before .before)))
@@ -87,7 +84,7 @@ add-add-run-3 : tie.Need-add-add-run-3
 add-add-run-3 c = search (needs, within (start (draws-in c .before .before)))
 
 add-run-requires-2 : tie.Need-add-run-requires-2
-add-run-requires-2 c κs = let f = start (draws-in (c .before) .before .before) in empty-fits (f .pre .1 .1 .0) (desks f) (omega (arith, within f, f .pre .0 .used))
+add-run-requires-2 c κs = let f = start (draws-in (c .before) .before .before) in empty-fits (f .pre .1 .1 .0) (f .pre .0 .desks-most) (omega (arith, within f))
 
 add-shares : tie.Need-add-shares
 add-shares c = omega (arith, draws-in (opening c) .add-run .ensures .0 .1, tips-in c .add-run2 .ensures .0 .1)
@@ -99,8 +96,8 @@ read-rows-of-requires c κs =
     let a = f .args in (
       f .pre .0,
       (
-        opened (a .w) (a .n) (a .at) (a .bytes .now) draw (f .pre .1 .0 .0) (f .pre .1 .0 .1) (omega arith) (draws-in (opening shares) .add-run .ensures .1) (desks f),
-        opened (a .w) (a .n) (a .at) (a .bytes .now) tip (f .pre .1 .1 .0) (f .pre .1 .1 .1) (omega arith) (tips-in shares .add-run2 .ensures .1) (desks f),
+        opened (a .n) (a .at) (a .bytes .now) draw (f .pre .1 .0 .0) (f .pre .1 .0 .1) (omega arith) (draws-in (opening shares) .add-run .ensures .1) (f .pre .0 .desks-most),
+        opened (a .n) (a .at) (a .bytes .now) tip (f .pre .1 .1 .0) (f .pre .1 .1 .1) (omega arith) (tips-in shares .add-run2 .ensures .1) (f .pre .0 .desks-most),
       ),
     )
 

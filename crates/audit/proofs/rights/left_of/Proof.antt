@@ -5,23 +5,22 @@ use native.Mathlib.Omega.{arith}
 use mathlib.Core.Path.{_≡_, _∙_}
 use lib.ListN.{length}
 use Rattle.rules.specs.Pile.{other}
-use Rattle.rules.specs.Layout.{rowLength, bodyView}
+use Rattle.rules.specs.Layout.{bodyView}
 use Rattle.audit.specs.Account.{sideOf}
-use Rattle.audit.proofs.Account.{earned-at, side-columns}
-use Rattle.audit.proofs.Places.{sideAt, share-at, row-within}
+use Rattle.audit.proofs.Account.{side-columns}
+use Rattle.audit.proofs.Places.{sideAt, share-at, earned-at, row-within}
 use Rattle.audit.proofs.DeskRights.{side-at, side-most, column-strided, row-strided, got-sum, given-sum, rights-of}
 use borrow.Author.Needs.{needs}
 use Rattle.audit.proofs.rights.left_of.Statement.{statement}
 use Rattle.audit.proofs.rights.left_of.Tie as tie
 
--- the row of the desk lies within the bytes, and a side's numbers start at most w places further
+-- the row of the desk lies within the bytes, and a side's numbers start at most n numbers further
 module _ (c : tie.Start) where
-  own-within : let a = c .args in a .at + (a .i + 1) * (8 * (a .w + 1)) + 8 * (a .w + 1) ≤ length (a .bytes .now)
-  unfolding rowLength
+  own-within : let a = c .args in a .at + (a .i + 1) * (8 * (a .n + 1)) + 8 * (a .n + 1) ≤ length (a .bytes .now)
   own-within = row-within (c .pre .2) (c .pre .1)
 
-  side-within : let a = c .args in a .w * a .side ≤ a .w
-  side-within = side-most (c .args .w) (c .args .side) (c .pre .0)
+  side-within : let a = c .args in a .n * a .side ≤ a .n
+  side-within = side-most (c .args .n) (c .args .side) (c .pre .0)
 
 add-row : tie.Need-add-row
 add-row c = search needs
@@ -60,19 +59,14 @@ add-sum-apart-3 : tie.Need-add-sum-apart-3
 add-sum-apart-3 c = search (needs, side-within (c .before))
 
 sum-apart-requires : tie.Need-sum-apart-requires
-sum-apart-requires c κs =
-    let start = c .before in
-    let body = start .pre .2 in
-    column-strided body (omega (arith, side-within start, body .used))
+sum-apart-requires c κs = column-strided (c .before .pre .2) (omega (arith, side-within (c .before)))
 
 add-sum-apart-4 : tie.Need-add-sum-apart-4
 add-sum-apart-4 c = search (needs, own-within (c .before .before), side-within (c .before .before))
 
 sum-apart-requires-2 : tie.Need-sum-apart-requires-2
 sum-apart-requires-2 c κs =
-    let start = c .before .before in
-    let body = start .pre .2 in
-    row-strided body (omega (arith, own-within start, side-within start, body .used))
+    let start = c .before .before in row-strided (start .pre .2) (omega (arith, own-within start, side-within start))
 
 add-word : tie.Need-add-word
 add-word c = search (needs, side-within (c .before .before .before))
@@ -128,15 +122,15 @@ returns c =
     let start = known .before in
     let a = start .args in
     let s = sideOf (a .side) in
-    let first : 4 * (a .w * a .side) ≡ sideAt (a .w) s = side-at (a .w) (a .side) (start .pre .0) in
+    let first : 4 * (a .n * a .side) ≡ sideAt (a .n) s = side-at (a .n) (a .side) (start .pre .0) in
     let columns = side-columns (a .side) (start .pre .0) in
     c .less .ensures
-    ∙ rights-of (a .n) (bodyView (a .w) (a .bytes .now) (a .at)) s (a .i)
-    (share-at (a .w) (a .bytes .now) (a .at) s (a .i) (one .word .ensures .0) (omega (arith, first)))
-    (earned-at (a .w) (a .bytes .now) (a .at) s (a .i) _ _ (two .word2 .ensures .0) (omega (arith, columns .0)))
-    (got-sum (a .w) (a .n) (a .at) (a .bytes .now) s (a .i) (one .before .before .sum-apart .ensures .0) (omega (arith, first)))
-    (given-sum (a .w) (a .n) (a .at) (a .bytes .now) s (a .i) (one .before .sum-apart2 .ensures .0) (omega (arith, first)))
-    (earned-at (a .w) (a .bytes .now) (a .at) (other s) (a .i) _ _ (three .word3 .ensures .0) (omega (arith, columns .1)))
+    ∙ rights-of (a .n) (bodyView (a .n) (a .bytes .now) (a .at)) s (a .i)
+    (share-at (a .n) (a .bytes .now) (a .at) s (a .i) (one .word .ensures .0) (omega (arith, first)))
+    (earned-at (a .n) (a .bytes .now) (a .at) s (a .i) (two .word2 .ensures .0) (omega (arith, columns .0)))
+    (got-sum (a .n) (a .at) (a .bytes .now) s (a .i) (one .before .before .sum-apart .ensures .0) (omega (arith, first)))
+    (given-sum (a .n) (a .at) (a .bytes .now) s (a .i) (one .before .sum-apart2 .ensures .0) (omega (arith, first)))
+    (earned-at (a .n) (a .bytes .now) (a .at) (other s) (a .i) (three .word3 .ensures .0) (omega (arith, columns .1)))
 
 pub left-of-spec : {M : Type 1} → statement M
 left-of-spec =

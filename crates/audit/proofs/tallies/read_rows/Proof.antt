@@ -6,30 +6,29 @@ use mathlib.Core.Path.{_≡_, refl}
 use lib.ListN.{length}
 use Rattle.rules.specs.Loops.{sum}
 use Rattle.rules.specs.Pile.{draw, tip}
-use Rattle.rules.specs.Layout.{bodyView, rowLength}
+use Rattle.rules.specs.Layout.{bodyView}
 use Rattle.audit.specs.Account.{Passed}
 use Rattle.rules.proofs.Loops.Arrays.{sum-next}
 use Rattle.audit.proofs.Places.{give-at, row-within}
-use Rattle.audit.proofs.Passing.{next-row}
+use Rattle.audit.proofs.Passing.{next-row, run-fits}
 use borrow.Author.Needs.{needs}
 use Rattle.audit.proofs.tallies.read_rows.Statement.{statement}
 use Rattle.audit.proofs.tallies.read_rows.Tie as tie
 
 abbrev Inv-loop : tie.InvT-loop
-Inv-loop bytes at w n draws₀ draw-given₀ tips₀ tip-given₀ row own₀ i₀ draws draw-given tips tip-given own i =
-    (i ≤ n) × Passed (bodyView w bytes at) draw n i draws draw-given × Passed (bodyView w bytes at) tip n i tips tip-given
-    × (own ≡ sum i (λ k. bodyView w bytes at .give draw k k + bodyView w bytes at .give tip k k)) × (own ≤ i * 8589934592)
+Inv-loop bytes at n draws₀ draw-given₀ tips₀ tip-given₀ row own₀ i₀ draws draw-given tips tip-given own i =
+    (i ≤ n) × Passed (bodyView n bytes at) draw n i draws draw-given × Passed (bodyView n bytes at) tip n i tips tip-given
+    × (own ≡ sum i (λ k. bodyView n bytes at .give draw k k + bodyView n bytes at .give tip k k)) × (own ≤ i * 8589934592)
 
 abbrev μ-loop : tie.MeasureT-loop
-μ-loop bytes at w n draws₀ draw-given₀ tips₀ tip-given₀ row own₀ i₀ draws draw-given tips tip-given own i = n - i
+μ-loop bytes at n draws₀ draw-given₀ tips₀ tip-given₀ row own₀ i₀ draws draw-given tips tip-given own i = n - i
 
 abbrev start : tie.At-loop Inv-loop μ-loop → tie.Start Inv-loop μ-loop
 start c = c .before .before .before .before .before .before
 
 -- the row of this turn lies within the bytes
 within : (c : tie.In-loop Inv-loop μ-loop) → let a = start (c .before) .args in
-    a .at + (c .before .loop .i + 1) * (8 * (a .w + 1)) + 8 * (a .w + 1) ≤ length (a .bytes .now)
-unfolding rowLength
+    a .at + (c .before .loop .i + 1) * (8 * (a .n + 1)) + 8 * (a .n + 1) ≤ length (a .bytes .now)
 within c = row-within (start (c .before) .pre .0) (c .loop-test .taken)
 
 -- from the calls of a turn, its start
@@ -64,13 +63,7 @@ add-gives-3 c = search (needs, within c)
 add-run-requires : tie.Need-add-run-requires Inv-loop μ-loop
 add-run-requires c κs =
     let at = c .before .before in
-    let body = start at .pre .0 in
-    record {
-      places = omega (arith, body .used, body .desks-most);
-      is-there = omega (arith, within (c .before), body .used);
-      long = at .loop .inv .1 .totals-long;
-      room = λ j l. omega (arith, at .loop .inv .1 .totals-most j l, at .loop .inv .0, body .used, body .desks-most);
-    }
+    let desks = start at .pre .0 .desks-most in run-fits (at .loop .inv .1) (omega arith) desks (omega (arith, within (c .before)))
 
 mul-draw-given : tie.Need-mul-draw-given Inv-loop μ-loop
 mul-draw-given c = search needs
@@ -88,13 +81,7 @@ add-run-requires-2 : tie.Need-add-run-requires-2 Inv-loop μ-loop
 add-run-requires-2 c κs =
     let turn = first (c .before) in
     let at = turn .before in
-    let body = start at .pre .0 in
-    record {
-      places = omega (arith, body .used, body .desks-most);
-      is-there = omega (arith, within turn, body .used);
-      long = at .loop .inv .2 .totals-long;
-      room = λ j l. omega (arith, at .loop .inv .2 .totals-most j l, at .loop .inv .0, body .used, body .desks-most);
-    }
+    let desks = start at .pre .0 .desks-most in run-fits (at .loop .inv .2) (omega (arith, at .loop .inv .0)) desks (omega (arith, within turn))
 
 mul-tip-given : tie.Need-mul-tip-given Inv-loop μ-loop
 mul-tip-given c = search needs
@@ -145,18 +132,18 @@ loop-again c =
     let at = turn .before in
     let a = start at .args in
     let inv = at .loop .inv in
-    let i<8 : at .loop .i < 8 = omega (arith, turn .loop-test .taken, start at .pre .0 .used, start at .pre .0 .desks-most) in
+    let i<8 : at .loop .i < 8 = omega (arith, turn .loop-test .taken, start at .pre .0 .desks-most) in
     let run = two .before .before .add-run .ensures in
     let run2 = c .before .before .before .before .add-run2 .ensures in (
       search needs,
-      next-row (a .w) (a .n) (a .at) (a .bytes .now) draw i<8 (omega arith) (inv .1) (run .0) (run .1),
-      next-row (a .w) (a .n) (a .at) (a .bytes .now) tip i<8 (omega arith) (inv .2) (run2 .0) (run2 .1),
+      next-row (a .n) (a .at) (a .bytes .now) draw i<8 (omega arith) (inv .1) (run .0) (run .1),
+      next-row (a .n) (a .at) (a .bytes .now) tip i<8 (omega arith) (inv .2) (run2 .0) (run2 .1),
       omega (
         arith,
         inv .3,
-        sum-next (at .loop .i) (λ k. bodyView (a .w) (a .bytes .now) (a .at) .give draw k k + bodyView (a .w) (a .bytes .now) (a .at) .give tip k k),
-        give-at (a .w) (a .bytes .now) (a .at) draw (at .loop .i) (at .loop .i) (c .before .word .ensures .0) (omega arith),
-        give-at (a .w) (a .bytes .now) (a .at) tip (at .loop .i) (at .loop .i) (c .word2 .ensures .0) (omega arith),
+        sum-next (at .loop .i) (λ k. bodyView (a .n) (a .bytes .now) (a .at) .give draw k k + bodyView (a .n) (a .bytes .now) (a .at) .give tip k k),
+        give-at (a .n) (a .bytes .now) (a .at) draw (at .loop .i) (at .loop .i) (c .before .word .ensures .0) (omega arith),
+        give-at (a .n) (a .bytes .now) (a .at) tip (at .loop .i) (at .loop .i) (c .word2 .ensures .0) (omega arith),
       ),
       omega (arith, inv .4, c .before .word .ensures .1, c .word2 .ensures .1),
     )

@@ -19,16 +19,16 @@ use Rattle.audit.proofs.tallies.rows_within.Statement.{statement}
 use Rattle.audit.proofs.tallies.rows_within.Tie as tie
 
 -- are the tallies of row i within the limit
-abbrev inLimit : List ℕ → ℕ → ℕ → ℕ → ℕ → Bool
-inLimit b at w n i =
-    every (2 + n) (λ k. leb (number 4 b (at + (i + 1) * rowLength w + k * 4)) tallyLimit)
-    and every n (λ k. leb (number 4 b (at + (i + 1) * rowLength w + 8 + 4 * w + k * 4)) tallyLimit)
+abbrev inLimit : List ℕ → ℕ → ℕ → ℕ → Bool
+inLimit b at n i =
+    every (2 + n) (λ k. leb (number 4 b (at + (i + 1) * rowLength n + k * 4)) tallyLimit)
+    and every n (λ k. leb (number 4 b (at + (i + 1) * rowLength n + 8 + 4 * n + k * 4)) tallyLimit)
 
 abbrev Inv-loop : tie.InvT-loop
-Inv-loop bytes at w n row i₀ i = (i ≤ n) × (every i (inLimit bytes at w n) ≡ true)
+Inv-loop bytes at n row i₀ i = (i ≤ n) × (every i (inLimit bytes at n) ≡ true)
 
 abbrev μ-loop : tie.MeasureT-loop
-μ-loop bytes at w n row i₀ i = n - i
+μ-loop bytes at n row i₀ i = n - i
 
 -- from the loop's head, the entry
 abbrev start : tie.At-loop Inv-loop μ-loop → tie.Start Inv-loop μ-loop
@@ -36,8 +36,7 @@ start c = c .before .before
 
 -- the row of this turn lies within the bytes
 within : (c : tie.In-loop Inv-loop μ-loop) → let a = start (c .before) .args in
-    a .at + (c .before .loop .i + 1) * (8 * (a .w + 1)) + 8 * (a .w + 1) ≤ length (a .bytes .now)
-unfolding rowLength
+    a .at + (c .before .loop .i + 1) * (8 * (a .n + 1)) + 8 * (a .n + 1) ≤ length (a .bytes .now)
 within c = row-within (start (c .before) .pre) (c .loop-test .taken)
 
 add-row : tie.Need-add-row Inv-loop μ-loop

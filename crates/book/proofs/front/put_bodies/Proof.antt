@@ -8,7 +8,7 @@ use Rattle.rules.specs.Layout.{bodyAt, bodyLength}
 use Rattle.rules.specs.Opening.{givenPile}
 use Rattle.rules.proofs.Loops.Refusals.{first-at}
 use Rattle.rules.proofs.File.Body.{length-body}
-use Rattle.book.proofs.Pieces.{Written, none-written, next-written, all-written}
+use Rattle.rules.proofs.Loops.Writing.{Written, none-written, next-written, all-written}
 use Rattle.book.proofs.Lengths.{body-within, pile-listed}
 use Rattle.book.proofs.Opened.{body, record-body}
 use borrow.Author.Needs.{needs}

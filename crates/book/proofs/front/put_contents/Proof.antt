@@ -7,7 +7,7 @@ use lib.ListN.{getD}
 use Rattle.rules.specs.Opening.{givenPile}
 use Rattle.rules.proofs.File.Rising.{number-most}
 use Rattle.rules.proofs.File.Written.{length-entry}
-use Rattle.book.proofs.Pieces.{Written, none-written, next-written, all-written}
+use Rattle.rules.proofs.Loops.Writing.{Written, none-written, next-written, all-written}
 use Rattle.book.proofs.Lengths.{position-most, pile-listed, given-number}
 use Rattle.book.proofs.Opened.{entry, put-entry}
 use borrow.Author.Needs.{needs}

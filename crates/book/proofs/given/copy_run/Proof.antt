@@ -5,7 +5,7 @@ use native.Mathlib.Omega.{arith}
 use mathlib.Core.List.{[], _∷_}
 use lib.ListN.{getD}
 use borrow.Author.Needs.{needs}
-use Rattle.book.proofs.Pieces.{Written, none-written, next-number, all-numbers}
+use Rattle.rules.proofs.Loops.Writing.{Written, none-written, next-number, all-numbers}
 use Rattle.book.proofs.given.copy_run.Statement.{statement}
 use Rattle.book.proofs.given.copy_run.Tie as tie
 

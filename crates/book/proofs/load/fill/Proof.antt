@@ -4,7 +4,7 @@ use Prim.Native.Nat.{_+_, _-_, _*_}
 use native.Mathlib.Omega.{arith}
 use mathlib.Core.List.{[], _∷_}
 use Rattle.rules.specs.Numbers.{number}
-use Rattle.book.proofs.Pieces.{Written, none-written, next-number, all-numbers}
+use Rattle.rules.proofs.Loops.Writing.{Written, none-written, next-number, all-numbers}
 use borrow.Author.Needs.{needs}
 use Rattle.book.proofs.load.fill.Statement.{statement}
 use Rattle.book.proofs.load.fill.Tie as tie

@@ -1,7 +1,6 @@
 -- `bodies_answer` has the bodies checked where they stand, behind the contents.
 -- Assumes nothing.
 use Prim.Native.Nat.{ℕ}
-use native.Mathlib.Nat.{le-refl}
 use mathlib.Core.Path.{ap, sym, _∙_}
 use lib.ListN.{length}
 use Rattle.rules.specs.Layout.{frontLength, bookLength, bodyAt}
@@ -24,8 +23,8 @@ returns c =
     let at = c .before .before .before in
     let a = at .args in
     let sizes = at .pre .sizes in
-    c .check-bodies .ensures ∙ ap (λ (from : ℕ). bodiesAnswer (a .n) (a .n) (a .p) from (a .book .now)) (c .before .front-length .ensures)
-    ∙ orElse-passes (sym (shape-fits (a .n) (a .n) (a .p) (frontLength (a .p)) (length (a .book .now)) (sizes .desks-least) (le-refl (a .n)) (sizes .desks-most) (sizes .piles-most) (at .pre .sized))) _
+    c .check-bodies .ensures ∙ ap (λ (from : ℕ). bodiesAnswer (a .n) (a .p) from (a .book .now)) (c .before .front-length .ensures)
+    ∙ orElse-passes (sym (shape-fits (a .n) (a .p) (frontLength (a .p)) (length (a .book .now)) (sizes .desks-least) (sizes .desks-most) (sizes .piles-most) (at .pre .sized))) _
 
 pub bodies-answer-spec : {M : Type 1} → statement M
 bodies-answer-spec = tie.close (tie.spec front-length-requires check-bodies-requires returns)

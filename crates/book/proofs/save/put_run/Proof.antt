@@ -6,7 +6,7 @@ use mathlib.Core.Path.{refl, _∙_}
 use lib.ListN.{getD}
 use Rattle.rules.specs.Numbers.{bytes}
 use Rattle.rules.proofs.Bytes.Numbers.{length-bytes, encode-list}
-use Rattle.book.proofs.Pieces.{Written, none-written, next-written, all-written}
+use Rattle.rules.proofs.Loops.Writing.{Written, none-written, next-written, all-written}
 use Rattle.rules.proofs.Bytes.Put.{put-fits}
 use borrow.Author.Needs.{needs}
 use Rattle.book.proofs.save.put_run.Statement.{statement}

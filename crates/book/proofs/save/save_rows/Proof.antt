@@ -5,7 +5,7 @@ use native.Mathlib.Omega.{arith}
 use mathlib.Core.Path.{refl}
 use Rattle.rules.specs.Numbers.{encode}
 use Rattle.rules.specs.Layout.{rowLength}
-use Rattle.book.proofs.Pieces.{Written, none-written, next-written, all-written}
+use Rattle.rules.proofs.Loops.Writing.{Written, none-written, next-written, all-written}
 use Rattle.book.proofs.Saved.{tallyRow, length-tally-row, put-tallies}
 use borrow.Author.Needs.{needs}
 use Rattle.book.proofs.save.save_rows.Statement.{statement}

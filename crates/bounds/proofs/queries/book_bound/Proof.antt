@@ -1,75 +1,69 @@
--- `book_bound` reads the body of the pile that `seek` has found.
+-- `book_bound` reads the body that was found, which is sound.
 -- Assumes nothing.
-use mathlib.Core.Path.{_≡_, ap, sym, _∙_}
+use native.Mathlib.Omega.{arith}
+use mathlib.Core.Path.{ap, _∙_}
 use Rattle.rules.specs.Refusals.{value}
-use Rattle.rules.specs.Book.{deskAnswer}
-use Rattle.rules.proofs.File.Readable.{book-facts, BookFacts}
-use Rattle.rules.proofs.File.Found.{found-readable}
-use Rattle.book.proofs.Bodies.{start-most, rights-small}
-use Rattle.bounds.proofs.Replies.{book-refused, room-found, bound-found}
+use Rattle.rules.specs.Layout.{desks}
+use Rattle.rules.proofs.Loops.Refusals.{reply-refused, reply-value}
+use Rattle.book.specs.Within.{SoundBody}
+use Rattle.book.proofs.Lengths.{row-within}
+use Rattle.book.proofs.Bodies.{rights-small}
+use Rattle.bounds.proofs.Replies.{room-read, bound-read}
 use borrow.Author.Needs.{needs}
 use Rattle.bounds.proofs.queries.book_bound.Statement.{statement}
 use Rattle.bounds.proofs.queries.book_bound.Tie as tie
 
--- past the test the pile is found
+-- past the test a body is found
 abbrev start : tie.Else1 → tie.Start
-start c = c .before .before .before
+start c = c .before .before
 
-found : (c : tie.Else1) → deskAnswer (start c .args .desk) (start c .args .book .now) (start c .args .number) ≡ 0
-found c = sym (c .before .seek .ensures .0) ∙ c .if1 .left
-
-facts : (c : tie.Else1) → BookFacts (start c .args .book .now)
-facts c = book-facts _ (found-readable _ _ _ (found c))
+sound : (c : tie.Else1) → SoundBody (start c .args .desk) (start c .args .book .now) (start c .args .found .start)
+sound c = start c .pre (c .if1 .left)
 
 abbrev one : tie.After-rights-in → tie.Else1
 one c = c .before .before
 
-seek-requires : tie.Need-seek-requires
-seek-requires c κs = search needs
-
 returns : tie.Need-returns
-returns c = book-refused _ _ _ (c .before .seek .ensures .0) (c .if1 .taken) _
+returns c = reply-refused _ _ (c .if1 .taken)
 
 shared-slice-read-n : tie.Need-shared-slice-read-n
-shared-slice-read-n c = search (needs, facts (c .before) .long)
+shared-slice-read-n c = search (needs, sound (c .before) .long)
 
 cast-n : tie.Need-cast-n
-cast-n c = search (needs, facts (c .before) .sizes .desks-most)
+cast-n c = search (needs, sound (c .before) .body .desks-most)
 
 rights-in-requires : tie.Need-rights-in-requires
 rights-in-requires c κs = search needs
 
 cast-rights : tie.Need-cast-rights
-cast-rights c = search (needs, rights-small _ _ _ (found (one c)) (one c .before .seek .ensures .1) _ (c .rights-in .ensures))
+cast-rights c = search (needs, rights-small _ _ (sound (one c)) _ (c .rights-in .ensures))
 
 get4-requires : tie.Need-get4-requires
 get4-requires c κs = search needs
 
+-- the top stands in the first row of the body, which lies within the book
 add-get4 : tie.Need-add-get4
-add-get4 c = let f = one (c .before) in search (needs, start-most _ _ _ (found f) (f .before .seek .ensures .1))
+add-get4 c = let f = one (c .before) in search (needs, sound f .body .within, row-within (desks (start f .args .book .now)) 0 (omega arith))
 
 get4-requires-2 : tie.Need-get4-requires-2
 get4-requires-2 c κs = search needs
 
 bound-of-requires : tie.Need-bound-of-requires
 bound-of-requires c κs =
-    let f = one (c .before .before) in
-    let l = f .before .seek .ensures in
-    room-found _ _ _ (l .0) (f .if1 .left) (l .1) _ (c .before .get4 .ensures) (c .get42 .ensures) (c .before .before .rights-in .ensures)
+    let read = c .before .before in
+    room-read _ _ (sound (one read)) _ (c .before .get4 .ensures) (c .get42 .ensures) (read .rights-in .ensures)
 
 returns-2 : tie.Need-returns-2
 returns-2 c =
-    let read = c .before in
-    let f = one (read .before .before) in
-    let l = f .before .seek .ensures in
-    ap value (c .bound-of .ensures)
-    ∙ bound-found _ _ _ (l .0) (f .if1 .left) (l .1) _ (read .before .get4 .ensures) (read .get42 .ensures) (read .before .before .rights-in .ensures)
+    let top = c .before in
+    let read = top .before .before in
+    ap value (bound-read _ _ (sound (one read)) _ (top .before .get4 .ensures) (top .get42 .ensures) (read .rights-in .ensures) (c .bound-of .ensures))
+    ∙ reply-value _ _ (one read .if1 .left)
 
 pub book-bound-spec : {M : Type 1} → statement M
 book-bound-spec =
     tie.close
     (tie.spec
-    seek-requires
     returns
     shared-slice-read-n
     cast-n

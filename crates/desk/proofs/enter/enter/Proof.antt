@@ -47,7 +47,7 @@ answered c =
     let b = start first .args .book .now in
     let rights = c .before .before in
     lines-answer _ (asked first) b (found (one c)) (first .seek .ensures .1) (celled c .cell-at .ensures .0) refl (read c .get4 .ensures) (c .before .receiver-wrong-for .ensures)
-    (rights .rights-in .ensures ∙ ap (λ (s : Side). rightsIn s (desks b) (desks b) (first .seek .result .start) b (start first .args .desk)) (rights .before .side-of .ensures))
+    (rights .rights-in .ensures ∙ ap (λ (s : Side). rightsIn s (desks b) (first .seek .result .start) b (start first .args .desk)) (rights .before .side-of .ensures))
     (c .act-refusal .ensures .0)
 
 seek-requires : tie.Need-seek-requires

@@ -2,7 +2,7 @@
 -- Assumes nothing.
 use mathlib.Core.Path.{sym, _∙_}
 use borrow.Author.Needs.{needs}
-use Rattle.pitbook.proofs.Left.{stays, becomes}
+use Rattle.rules.proofs.Loops.Left.{stays, becomes}
 use Rattle.pitbook.proofs.acts.pit_take.Statement.{statement}
 use Rattle.pitbook.proofs.acts.pit_take.Tie as tie
 

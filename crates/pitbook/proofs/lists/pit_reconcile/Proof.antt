@@ -5,7 +5,7 @@ use borrow.Author.Needs.{needs}
 use Rattle.reconcile.specs.declared.Reconciliation.{Reconciliation}
 use Rattle.reconcile.specs.Lists.{reconcileAnswer}
 use Rattle.reconcile.proofs.Reconciled.{answer-told}
-use Rattle.pitbook.proofs.Left.{stays, becomes}
+use Rattle.rules.proofs.Loops.Left.{stays, becomes}
 use Rattle.pitbook.proofs.lists.pit_reconcile.Statement.{statement}
 use Rattle.pitbook.proofs.lists.pit_reconcile.Tie as tie
 

@@ -6,7 +6,7 @@ use Rattle.rules.proofs.Loops.Refusals.{when-accepted}
 use Rattle.ticket.specs.declared.Ticket.{Ticket}
 use Rattle.ticket.specs.declared.Reading.{Reading}
 use Rattle.ticket.specs.Tickets.{ticketOf, readAnswer, reading}
-use Rattle.pitbook.proofs.Left.{stays, becomes}
+use Rattle.rules.proofs.Loops.Left.{stays, becomes}
 use Rattle.pitbook.proofs.tickets.pit_read_ticket.Statement.{statement}
 use Rattle.pitbook.proofs.tickets.pit_read_ticket.Tie as tie
 

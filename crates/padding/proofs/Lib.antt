@@ -1,0 +1,9 @@
+pub mod Cells
+pub mod Parts
+pub mod RecordLists
+pub mod Widened
+pub mod Padded
+pub mod Narrowed
+pub mod PackLines
+pub mod Unused
+pub mod Checked
