@@ -7,3 +7,4 @@ pub mod Sides
 pub mod ActLines
 pub mod Audits
 pub mod Replies
+pub mod RecordNumbers

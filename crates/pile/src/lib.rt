@@ -3,19 +3,25 @@ mod account;
 mod acts;
 mod check;
 pub mod lines;
+mod lists;
 mod parts;
 mod queries;
 
 use acts::give_side;
 use acts::spend_side;
 use check::audit_of;
+use lists::numbers_of;
+use lists::record_of;
+use padding::RECORD;
+use padding::pad;
 use queries::holdings_of;
 use queries::rights_of;
 use queries::tonnage_of;
 ghost use mathlib.Core.Path.{_≡_};
 ghost use Rattle.rules.specs.Pile.{draw, tip};
 ghost use Rattle.rules.specs.Acts.{spend, give};
-ghost use Rattle.rules.specs.Record.{recordAnswer, freshAnswer, freshRecord, zeroRecord, recordTonnageReply, recordRightsReply, recordTonnage, recordRights, recordActAnswer, recordAfterAct};
+ghost use Rattle.rules.specs.Record.{recordAnswer, bodyRecord, freshAnswer, freshRecord, zeroRecord, recordTonnageReply, recordRightsReply, recordTonnage, recordRights, recordActAnswer, recordAfterAct};
+ghost use Rattle.padding.specs.Lists.{recordNumbers};
 ghost use Rattle.pile.specs.View.{asRecord};
 ghost use Rattle.pile.specs.Replies.{asReply};
 
@@ -102,6 +108,22 @@ impl Pile {
             shares: [0; SHARES],
             tallies: [0; TALLIES],
         }
+    }
+
+    // The record of the body of n desks at a position; where no such body is there, the record of all zeros, which every call on a record refuses with 2.
+    pub fn of_body(bytes: &[u8], at: usize, n: usize) -> Pile
+        ensures { λ r. ⌜ asRecord r ≡ bodyRecord n (now (bytes .entry)) at ⌝ }
+    {
+        let mut numbers = [0u32; RECORD];
+        pad(bytes, at, n, &mut numbers);
+        record_of(&numbers)
+    }
+
+    // The record as a list of numbers.
+    pub fn numbers(self) -> [u32; RECORD]
+        ensures { λ r. ⌜ r ≡ recordNumbers (asRecord self) ⌝ }
+    {
+        numbers_of(self)
     }
 
     // The record's own refusal: 2, 5, 6 or 7, or 0.

@@ -131,10 +131,13 @@ recordOf n p =
       tallies = flat deskLimit (paddedRow n p);
     }
 
--- the record of the body that starts at a position of a book's contents: all zeros where no body of the head's n desks is there. The book is not checked.
+-- the record of the body of n desks that starts at a position: all zeros where no such body is there
+unfoldable pub bodyRecord : ℕ → List ℕ → ℕ → Record
+bodyRecord n b at = cond (between 1 deskLimit n and leb (at + bodyLength n) (length b)) (recordOf n (bodyView n b at)) zeroRecord
+
+-- and that of the head's desks, at a position of a book's contents. The book is not checked.
 unfoldable pub recordAt : List ℕ → ℕ → Record
-recordAt b at =
-    cond (between 1 deskLimit (desks b) and leb (at + bodyLength (desks b)) (length b)) (recordOf (desks b) (bodyView (desks b) b at)) zeroRecord
+recordAt b at = bodyRecord (desks b) b at
 
 -- fetching a pile: all zeros where it is refused
 unfoldable pub fetched : List ℕ → ℕ → Record

@@ -4,10 +4,10 @@ use native.Mathlib.Omega.{arith}
 use mathlib.Core.Path.{_∙_}
 use borrow.Author.Needs.{needs}
 use Rattle.rules.specs.Record.{tallyPlaces}
-use Rattle.pitbook.specs.Numbers.{talliesAt, numbersRecord}
-use Rattle.pitbook.proofs.RecordNumbers.{whole-run}
-use Rattle.pitbook.proofs.copies.tallies_of.Statement.{statement}
-use Rattle.pitbook.proofs.copies.tallies_of.Tie as tie
+use Rattle.padding.specs.Lists.{talliesAt, numbersRecord}
+use Rattle.pile.proofs.RecordNumbers.{whole-run}
+use Rattle.pile.proofs.lists.tallies_of.Statement.{statement}
+use Rattle.pile.proofs.lists.tallies_of.Tie as tie
 
 slice-aggregate-copy-run : tie.Need-slice-aggregate-copy-run
 slice-aggregate-copy-run c = search needs

@@ -10,9 +10,9 @@ use borrow.Author.Needs.{needs}
 use Rattle.rules.specs.Loops.{list}
 use Rattle.rules.proofs.Loops.Pieces.{length-list, getD-list}
 use Rattle.rules.proofs.Loops.Parts.{part-is}
-use Rattle.book.proofs.Pieces.{Written, none-written, next-number, all-numbers}
-use Rattle.pitbook.proofs.copies.copy_run.Statement.{statement}
-use Rattle.pitbook.proofs.copies.copy_run.Tie as tie
+use Rattle.rules.proofs.Loops.Writing.{Written, none-written, next-number, all-numbers}
+use Rattle.pile.proofs.lists.copy_run.Statement.{statement}
+use Rattle.pile.proofs.lists.copy_run.Tie as tie
 
 abbrev number : List ℕ → ℕ → ℕ → ℕ
 number numbers from j = getD numbers (from + j) 0

@@ -4,10 +4,10 @@ use native.Mathlib.Omega.{arith}
 use mathlib.Core.Path.{_∙_}
 use borrow.Author.Needs.{needs}
 use Rattle.rules.specs.Record.{sharePlaces}
-use Rattle.pitbook.specs.Numbers.{sharesAt, numbersRecord}
-use Rattle.pitbook.proofs.RecordNumbers.{whole-run}
-use Rattle.pitbook.proofs.copies.shares_of.Statement.{statement}
-use Rattle.pitbook.proofs.copies.shares_of.Tie as tie
+use Rattle.padding.specs.Lists.{sharesAt, numbersRecord}
+use Rattle.pile.proofs.RecordNumbers.{whole-run}
+use Rattle.pile.proofs.lists.shares_of.Statement.{statement}
+use Rattle.pile.proofs.lists.shares_of.Tie as tie
 
 slice-aggregate-copy-run : tie.Need-slice-aggregate-copy-run
 slice-aggregate-copy-run c = search needs
