@@ -2,7 +2,6 @@
 -- Assumes nothing.
 use Prim.Native.Nat.{ℕ, _≤_}
 use native.Mathlib.Decide.{ℕ-discrete}
-use native.Mathlib.Nat.{le-refl}
 use native.Mathlib.Omega.{arith}
 use mathlib.Core.Path.{_≡_, refl, ap, sym, _∙_}
 use mathlib.Core.Logic.{by-cases}
@@ -36,9 +35,9 @@ module _ (i : ℕ) (b : List ℕ) {at : ℕ} (sound : SoundBody i b at) where
   pub pile-sound : PileFacts n P
   pile-sound = facts n P (sound .passes)
 
-  there : bodyThere n n at (length b) ≡ true
+  there : bodyThere n at (length b) ≡ true
   unfolding bodyThere
-  there = and-both (le-leb _ _ (le-refl n)) (and-both (le-leb _ _ (sound .body .desks-most)) (le-leb _ _ (sound .body .within)))
+  there = and-both (le-leb _ _ (sound .body .desks-most)) (le-leb _ _ (sound .body .within))
 
   pub rights-read : (s : Side) {x : ℕ} → x ≡ rightsIn s n at b i → x ≡ rights n P s i
   unfolding rightsIn

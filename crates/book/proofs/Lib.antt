@@ -1,9 +1,10 @@
 pub mod Rising
 pub mod Passed
 pub mod Lengths
-pub mod Loaded
-pub mod Saved
+pub mod GivenShares
+pub mod OpeningRuns
 pub mod BookLines
+pub mod ListLines
 pub mod Replies
 pub mod Opened
 pub mod Bodies

@@ -2,29 +2,47 @@
 -- Assumes nothing.
 use Prim.Native.Nat.{ℕ, _+_, _*_, _≤_}
 use native.Mathlib.Omega.{arith}
-use mathlib.Core.Path.{_≡_}
+use mathlib.Core.Path.{_≡_, ap, _∙_}
 use mathlib.Core.List.{List, [], _∷_, _++_}
 use lib.ListN.{length}
 use lib.Seq.{sets, length-sets}
 use Rattle.rules.specs.Loops.{flat}
 use Rattle.rules.specs.Refusals.{first}
 use Rattle.rules.specs.Numbers.{bytes, afterPut}
-use Rattle.rules.specs.Layout.{bodyAt, bodyBytes, entryBytes, bookBytes, entryAt, positionAt}
-use Rattle.rules.specs.Record.{Record, recordView, recordOf}
+use Rattle.rules.specs.Layout.{bodyLength, bodyAt, bodyBytes, entryBytes, bookBytes, entryAt, positionAt}
+use Rattle.rules.specs.Record.{Record, sharePlaces, tallyPlaces, recordOf}
 use Rattle.rules.specs.Opening.{given, givenPile, opened}
 use Rattle.rules.proofs.Bytes.Numbers.{length-bytes}
 use Rattle.rules.proofs.File.Body.{body-cong}
 use Rattle.rules.proofs.File.Written.{length-contents}
-use Rattle.rules.proofs.Record.RecordOf.{record-agrees}
+use Rattle.rules.proofs.Record.RecordOf.{length-shares, length-tallies, record-agrees}
 use Rattle.rules.proofs.Bytes.Put.{put-fits}
 use Rattle.rules.proofs.Loops.Sets.{sets-then}
+use Rattle.padding.specs.Lists.{recordNumbers, afterPack}
+use Rattle.padding.proofs.PackLines.{pack-leaves}
+use Rattle.pile.proofs.RecordNumbers.{length-record, numbers-again}
 
 abbrev pub body : ℕ → List ℕ → ℕ → List ℕ
 body n l k = bodyBytes n (givenPile n l k)
 
--- the record of a given pile makes its body
-pub record-body : (n : ℕ) (l : List ℕ) (k : ℕ) {r : Record} → n ≤ 8 → r ≡ recordOf n (givenPile n l k) → bodyBytes n (recordView r) ≡ body n l k
-record-body n l k n≤8 is = rw is (body-cong n _ _ (record-agrees n (givenPile n l k) n≤8))
+-- the record of a given pile makes its body, packed where it has room
+module _ (n : ℕ) (l : List ℕ) (k : ℕ) (n≥1 : 1 ≤ n) (n≤8 : n ≤ 8) where
+  abbrev given-record : Record
+  given-record = recordOf n (givenPile n l k)
+
+  given-shares : length (given-record .shares) ≡ sharePlaces
+  given-shares = length-shares n (givenPile n l k)
+
+  given-tallies : length (given-record .tallies) ≡ tallyPlaces
+  given-tallies = length-tallies n (givenPile n l k)
+
+  pub put-given : (b : List ℕ) (at : ℕ) → at + bodyLength n ≤ length b → {r : Record} {numbers after : List ℕ} → r ≡ given-record → numbers ≡ recordNumbers r
+      → after ≡ afterPack numbers at b → after ≡ sets b at (body n l k)
+  unfolding recordOf recordNumbers
+  put-given b at room is listed packed =
+      let numbers = rw is at listed in
+      pack-leaves (recordNumbers given-record) at b (length-record given-record given-shares given-tallies) n≥1 n≤8 room (rw numbers at packed)
+      ∙ rw (numbers-again given-record given-shares given-tallies) (ap (sets b at) (body-cong n _ _ (record-agrees n (givenPile n l k) n≤8)))
 
 module _ (n p : ℕ) (l : List ℕ) where
   abbrev pub entry : ℕ → List ℕ

@@ -7,11 +7,14 @@ use mathlib.Core.List.{List, []}
 use Rattle.rules.specs.Numbers.{part}
 use Rattle.rules.specs.Layout.{bodyLength, bodyAt, desks, piles, position, pileOf}
 use Rattle.rules.specs.Book.{bookAnswer, place, fetchAnswer, deskAnswer, bodyPart, bodyStart}
-use Rattle.rules.specs.Record.{Record, zeroRecord, recordOf, fetched, deskRecord, deskStart}
+use Rattle.rules.specs.Record.{zeroRecord, bodyRecord, fetched, deskStart}
 use Rattle.rules.proofs.Loops.Refusals.{when-accepted, when-refused}
 use Rattle.rules.proofs.File.Found.{found-readable, found-place, desk-0-fetch}
 use Rattle.rules.proofs.File.Refused.{body-refused}
-use Rattle.rules.proofs.Record.OfBody.{found-record, found-start}
+use Rattle.rules.proofs.File.Readable.{book-facts}
+use Rattle.rules.proofs.Record.OfBody.{found-start}
+use Rattle.rules.proofs.Record.RoundTrip.{body-in, fetched-readable, fetched-place, fetched-is}
+use Rattle.rules.proofs.Record.AtPosition.{record-there}
 
 -- a readable book that has a pile at place k
 pub record HasPlace (b : List ℕ) (k : ℕ) : Type 0 where
@@ -28,10 +31,6 @@ module _ (i : ℕ) (b : List ℕ) (number : ℕ) {m : ℕ} (answer : m ≡ deskA
     unfolding deskStart
     start-nowhere = sym (when-refused _ _ _ not-found)
 
-    pub record-zero : zeroRecord ≡ deskRecord i b number
-    unfolding deskRecord
-    record-zero = sym (when-refused _ _ _ not-found)
-
   -- the pile was found
   module _ (z : m ≡ 0) where
     found : deskAnswer i b number ≡ 0
@@ -46,14 +45,6 @@ module _ (i : ℕ) (b : List ℕ) (number : ℕ) {m : ℕ} (answer : m ≡ deskA
       pub start-at : {start : ℕ} → start ≡ bodyAt (desks b) (piles b) k → start ≡ deskStart i b number
       start-at is = is ∙ ap (bodyAt (desks b) (piles b)) at ∙ sym (found-start i b number found)
 
-      pub record-at : {r : Record} → r ≡ recordOf (desks b) (pileOf b k) → r ≡ deskRecord i b number
-      record-at is = rw (is, at) (sym (found-record i b number found))
-
-module _ (b : List ℕ) (number : ℕ) where
-  pub fetched-is : deskRecord 0 b number ≡ fetched b number
-  unfolding deskRecord fetched
-  fetched-is = rw (desk-0-fetch b number)
-
 module _ (b : List ℕ) (number : ℕ) {m : ℕ} (answer : m ≡ deskAnswer 0 b number) where
   pub fetch-is : m ≡ fetchAnswer b number
   fetch-is = answer ∙ desk-0-fetch b number
@@ -61,6 +52,10 @@ module _ (b : List ℕ) (number : ℕ) {m : ℕ} (answer : m ≡ deskAnswer 0 b 
   module _ (d : m ≢ 0) where
     not-fetched : fetchAnswer b number ≢ 0
     not-fetched z = d (fetch-is ∙ z)
+
+    pub fetched-zero : zeroRecord ≡ fetched b number
+    unfolding fetched
+    fetched-zero = sym (when-refused _ _ _ not-fetched)
 
     pub part-refused : [] ≡ bodyPart b number
     part-refused = sym (body-refused b number not-fetched)
@@ -72,6 +67,15 @@ module _ (b : List ℕ) (number : ℕ) {m : ℕ} (answer : m ≡ deskAnswer 0 b 
   module _ (z : m ≡ 0) where
     fetchable : fetchAnswer b number ≡ 0
     fetchable = sym fetch-is ∙ z
+
+    -- at the start that was found
+    pub fetched-found : {at : ℕ} → at ≡ deskStart 0 b number → bodyRecord (desks b) b at ≡ fetched b number
+    unfolding pileOf
+    fetched-found is =
+        let facts = book-facts b (fetched-readable b number fetchable) in
+        ap (bodyRecord (desks b) b) (is ∙ found-start 0 b number (sym answer ∙ z))
+        ∙ record-there (desks b) b _ (facts .sizes .desks-least) (facts .sizes .desks-most) (body-in b facts _ (fetched-place b number fetchable))
+        ∙ sym (fetched-is b number fetchable)
 
     module _ {k : ℕ} (at : k ≡ place b number) where
       pub part-found : {from size : ℕ} → from ≡ position b k → size ≡ bodyLength (desks b) → part from size b ≡ bodyPart b number

@@ -1,3 +1,3 @@
-pub mod Runs
 pub mod Within
 pub mod Listed
+pub mod Numbers

@@ -6,7 +6,6 @@ use mathlib.Core.List.{List}
 use lib.ListN.{length}
 use Rattle.rules.specs.Pile.{pileAnswer}
 use Rattle.rules.specs.Layout.{deskLimit, pileLimit, Sizes, frontLength, rowLength, bodyLength, bookLength, bodyView, desks}
-use Rattle.rules.specs.Record.{tallyPlaces}
 
 -- the head and the contents of p piles
 pub record FrontWithin (p : ℕ) (b : List ℕ) : Type 0 where
@@ -24,12 +23,6 @@ pub record SoundBody (i : ℕ) (b : List ℕ) (at : ℕ) : Type 0 where
   pub desk : i < desks b
   pub body : BodyWithin (desks b) at b
   pub passes : pileAnswer (desks b) (bodyView (desks b) b at) ≡ 0
-
--- the rows of n desks, from a position on, where the array that they are written from has all 8
-pub record RowsWithin (n at : ℕ) (b tallies : List ℕ) : Type 0 where
-  pub desks-most : n ≤ deskLimit
-  pub within : at + n * rowLength n ≤ length b
-  pub all-there : length tallies ≡ tallyPlaces
 
 -- a whole book of n desks and p piles, and nothing behind it
 pub record BookSized (n p : ℕ) (b : List ℕ) : Type 0 where

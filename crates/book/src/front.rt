@@ -6,9 +6,9 @@ use crate::layout::HEAD;
 use crate::layout::POSITION;
 use crate::layout::body_at;
 use crate::layout::body_length;
-use crate::save::save;
 use number::put2;
 use number::put4;
+use padding::pack;
 ghost use mathlib.Core.Path.{_≡_};
 ghost use mathlib.Core.List.{[], _∷_, _++_};
 ghost use lib.Seq.{sets};
@@ -53,7 +53,8 @@ pub(crate) fn put_bodies(out: &mut [u8], n: u8, p: usize, numbers: &[u32])
     while k < p {
         let given = given_pile(numbers, n, k);
         let pile = given.pile;
-        save(out, n as usize, at, pile);
+        let record = pile.numbers();
+        pack(&record, out, at);
         at += size;
         k += 1;
     }

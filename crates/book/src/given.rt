@@ -13,7 +13,7 @@ ghost use Rattle.rules.specs.Pile.{openingLawful};
 ghost use Rattle.rules.specs.Opening.{givenPile};
 ghost use Rattle.rules.specs.Record.{recordOf};
 ghost use Rattle.pile.specs.View.{asRecord};
-ghost use Rattle.book.specs.Runs.{RunFits};
+ghost use Rattle.padding.specs.Fits.{RunFits};
 ghost use Rattle.book.specs.Listed.{Listed, Openings};
 
 // Copies count numbers, from a place on, to the places of an array from one on.

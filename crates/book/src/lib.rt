@@ -4,12 +4,11 @@ mod front;
 mod given;
 mod head;
 pub mod layout;
-mod load;
+pub mod lists;
 mod opening;
 mod queries;
 mod readable;
 mod same;
-mod save;
 
 use audit::tonnage_in;
 use find::Found;
@@ -22,7 +21,7 @@ use layout::POSITION;
 use layout::body_at;
 use layout::body_length;
 use layout::sizes_in_range;
-use load::load;
+use lists::store_numbers;
 use number::get4;
 use opening::opening_answer;
 use pile::Amount;
@@ -30,8 +29,6 @@ use pile::Outcome;
 use pile::Pile;
 use queries::rights_of;
 use readable::book_answer;
-use same::same_opening;
-use save::save;
 ghost use mathlib.Core.Path.{_≡_};
 ghost use lib.ListN.{length};
 ghost use denote.Ref.{ptr};
@@ -39,7 +36,7 @@ ghost use Rattle.rules.specs.Numbers.{partPlace};
 ghost use Rattle.rules.specs.Pile.{draw, tip};
 ghost use Rattle.rules.specs.Opening.{bufferLength, bodySize, openingAnswer, afterOpening};
 ghost use Rattle.rules.specs.Book.{bookAnswer, fetchAnswer, deskAnswer, bodyPart, bodyStart, tonnageReply, rightsReply};
-ghost use Rattle.rules.specs.Record.{recordAt, fetched, deskRecord, deskStart, storeAnswer, afterStore};
+ghost use Rattle.rules.specs.Record.{recordAt, fetched, deskStart, storeAnswer, afterStore};
 ghost use Rattle.pile.specs.View.{asRecord};
 ghost use Rattle.pile.specs.Replies.{asReply};
 
@@ -111,49 +108,7 @@ pub fn pile_at(book: &[u8], position: u32) -> Pile
     if book.len() < HEAD {
         return Pile::zero();
     }
-    let n = book[1];
-    let size = body_size(n);
-    if size == 0 {
-        return Pile::zero();
-    }
-    let at = position as usize;
-    if book.len() < at + size {
-        return Pile::zero();
-    }
-    load(book, n, at)
-}
-
-// What a desk's call needs of a pile: a refusal's number or 0, where the pile's body starts, and its record.
-pub struct Located {
-    pub answer: u8,
-    pub start: usize,
-    pub pile: Pile,
-}
-
-// The pile of a number, for a desk; refused with 1 to 7, 11 or 10, and then at 0 and all zeros. Every book has desk 0.
-pub fn locate(book: &[u8], desk: u8, number: u16) -> Located
-    ensures answer { λ r. ⌜ r .answer ≡ deskAnswer desk (now (book .entry)) number ⌝ }
-    ensures start { λ r. ⌜ r .start ≡ deskStart desk (now (book .entry)) number ⌝ }
-    ensures pile { λ r. ⌜ asRecord (r .pile) ≡ deskRecord desk (now (book .entry)) number ⌝ }
-{
-    let found = find(book, desk, number);
-    let refusal = found.answer;
-    if refusal != 0 {
-        return Located {
-            answer: refusal,
-            start: 0,
-            pile: Pile::zero(),
-        };
-    }
-    let k = found.place;
-    let n = book[1];
-    let p = book[2] as usize;
-    let start = body_at(n as usize, p, k);
-    Located {
-        answer: 0,
-        start,
-        pile: load(book, n, start),
-    }
+    Pile::of_body(book, position as usize, book[1] as usize)
 }
 
 // Where a desk's call finds a pile: a refusal's number or 0, and where the pile's body starts.
@@ -189,10 +144,19 @@ pub fn fetch(book: &[u8], number: u16) -> Outcome
     ensures answer { λ r. ⌜ r .answer ≡ fetchAnswer (now (book .entry)) number ⌝ }
     ensures pile { λ r. ⌜ asRecord (r .pile) ≡ fetched (now (book .entry)) number ⌝ }
 {
-    let found = locate(book, 0, number);
-    let answer = found.answer;
-    let pile = found.pile;
-    Outcome { answer, pile }
+    let found = seek(book, 0, number);
+    let refusal = found.answer;
+    if refusal != 0 {
+        return Outcome {
+            answer: refusal,
+            pile: Pile::zero(),
+        };
+    }
+    let start = found.start;
+    Outcome {
+        answer: 0,
+        pile: Pile::of_body(book, start, book[1] as usize),
+    }
 }
 
 // Stores a record as the body of its pile; refused with 1 to 7 or 10 for the book, then 2, 5, 6 or 7 for the record, then 30 where n or opening differs.
@@ -200,26 +164,8 @@ pub fn store(book: &mut [u8], number: u16, pile: Pile) -> u8
     ensures answer { λ r. ⌜ r ≡ storeAnswer (now (book .entry)) number (asRecord pile) ⌝ }
     ensures book { λ r. ⌜ now (book .exit) ≡ afterStore (now (book .entry)) number (asRecord pile) ⌝ }
 {
-    let found = locate(book, 0, number);
-    let refusal = found.answer;
-    if refusal != 0 {
-        return refusal;
-    }
-    let own = pile.check();
-    if own != 0 {
-        return own;
-    }
-    let n = book[1];
-    if pile.n != n {
-        return 30;
-    }
-    let stored = found.pile;
-    if !same_opening(pile, stored, n as usize) {
-        return 30;
-    }
-    let start = found.start;
-    save(book, n as usize, start, pile);
-    0
+    let numbers = pile.numbers();
+    store_numbers(book, number, &numbers)
 }
 
 // The tonnage of a pile by the acts that the book holds; refused with 1 to 7 or 10.

@@ -1,4 +1,6 @@
 pub mod Entered
 pub mod Held
+pub mod InOrder
+pub mod Marking
 pub mod Moved
 pub mod TakeLines

@@ -1,21 +1,16 @@
 -- What the functions of a take ask of the taker's book and the copy: that a part lies within both.
 -- Assumes nothing.
-use Prim.Native.Nat.{ℕ, _+_, _*_, _≤_, _<_}
+use Prim.Native.Nat.{ℕ, _+_, _*_, _≤_}
 use mathlib.Core.Path.{_≡_}
 use mathlib.Core.List.{List}
 use lib.ListN.{length}
 use Rattle.rules.specs.Numbers.{part}
-use Rattle.rules.specs.Layout.{deskLimit, Sizes, rowLength, bodyLength, bodyAt, bookLength, position}
+use Rattle.rules.specs.Layout.{Sizes, rowLength, bookLength}
 
 -- so many bytes from a position on
 pub record InBoth (at count : ℕ) (own copy : List ℕ) : Type 0 where
   pub in-own : at + count ≤ length own
   pub in-copy : at + count ≤ length copy
-
--- a body of n desks from a position on
-pub record BodyInBoth (n at : ℕ) (own copy : List ℕ) : Type 0 where
-  pub desks-most : n ≤ deskLimit
-  pub within : InBoth at (bodyLength n) own copy
 
 -- so many rows from a position on, few enough that no position wraps
 pub record RowsInBoth (at row count : ℕ) (own copy : List ℕ) : Type 0 where
@@ -23,12 +18,11 @@ pub record RowsInBoth (at row count : ℕ) (own copy : List ℕ) : Type 0 where
   pub count-most : count ≤ 288
   pub within : InBoth at (count * row) own copy
 
--- books of n desks and p piles, side by side: body k starts at the position that the own contents has for it
+-- books of n desks and p piles, side by side
 pub record Alongside (n p : ℕ) (own copy : List ℕ) : Type 0 where
   pub sizes : Sizes n p
   pub own-sized : length own ≡ bookLength n p
   pub copy-sized : length copy ≡ bookLength n p
-  pub placed : (k : ℕ) → k < p → position own k ≡ bodyAt n p k
 
 -- the row of n desks at a position of a book
 abbrev pub rowIn : ℕ → ℕ → List ℕ → List ℕ

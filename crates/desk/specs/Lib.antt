@@ -1,2 +1,3 @@
 pub mod Kinds
 pub mod Both
+pub mod Marks

@@ -2,9 +2,7 @@
 use book::check;
 use book::layout::ENTRY;
 use book::layout::HEAD;
-use book::layout::POSITION;
 use number::get2;
-use number::get4;
 use rows::Comparison;
 use rows::compare;
 ghost use mathlib.Core.Path.{_≡_};
@@ -13,11 +11,12 @@ ghost use lib.Dec.{eqb};
 ghost use Rattle.rules.specs.Loops.{_and_, every};
 ghost use Rattle.rules.specs.Refusals.{first};
 ghost use Rattle.rules.specs.Numbers.{part};
-ghost use Rattle.rules.specs.Layout.{rowLength, bodyAt, pileNumber};
-ghost use Rattle.rules.specs.Rows.{compared, isAlike};
+ghost use Rattle.rules.specs.Layout.{rowLength, frontLength, bodyAt, desks, piles, pileNumber};
+ghost use Rattle.rules.specs.Rows.{compared, isAlike, isCopyLater};
 ghost use Rattle.rules.specs.Take.{rowAnswer, takeAnswer};
 ghost use Rattle.rows.specs.Comparisons.{asComparison};
-ghost use Rattle.desk.specs.Both.{InBoth, BodyInBoth, Alongside, rowIn};
+ghost use Rattle.desk.specs.Both.{InBoth, Alongside, rowIn};
+ghost use Rattle.desk.specs.Marks.{comparedAt, Blank, Marked, DesksAhead, PilesAhead};
 
 // The refusals of a copy are those of a book and so much more.
 const OF_COPY: u8 = 20;
@@ -44,54 +43,92 @@ fn alike_at(own: &[u8], copy: &[u8], at: usize, row: usize) -> bool
     }
 }
 
+// What is said of a row: 31, 32 or 0, and whether the copy's is later.
+struct Judged {
+    pub answer: u8,
+    pub later: bool,
+}
+
 // 31 where the rows at one position are split; 32 where they are those of the taker's own desk, as `takers` says, and the copy's is later.
-fn row_answer(own: &[u8], copy: &[u8], at: usize, row: usize, takers: bool) -> u8
+fn judge_row(own: &[u8], copy: &[u8], at: usize, row: usize, takers: bool) -> Judged
     requires { ⌜ InBoth at row (now own) (now copy) ⌝ }
-    ensures { λ r. ⌜ r ≡ rowAnswer takers (compared (part at row (now (own .entry))) (part at row (now (copy .entry)))) ⌝ }
+    ensures answer { λ r. ⌜ r .answer ≡ rowAnswer takers (compared (part at row (now (own .entry))) (part at row (now (copy .entry)))) ⌝ }
+    ensures later { λ r. ⌜ r .later ≡ isCopyLater (compared (part at row (now (own .entry))) (part at row (now (copy .entry)))) ⌝ }
 {
     match compare_at(own, copy, at, row) {
-        Comparison::Alike => 0,
-        Comparison::MineLater => 0,
+        Comparison::Alike => Judged {
+            answer: 0,
+            later: false,
+        },
+        Comparison::MineLater => Judged {
+            answer: 0,
+            later: false,
+        },
         Comparison::CopyLater => {
             if takers {
-                return 32;
+                return Judged {
+                    answer: 32,
+                    later: true,
+                };
             }
-            0
+            Judged {
+                answer: 0,
+                later: true,
+            }
         }
-        Comparison::Split => 31,
+        Comparison::Split => Judged {
+            answer: 31,
+            later: false,
+        },
         // Rows of readable books have a row's length.
-        Comparison::Refused(_) => 0,
+        Comparison::Refused(_) => Judged {
+            answer: 0,
+            later: false,
+        },
     }
 }
 
-// The first refusal of the rows of one pile, desk by desk; its body starts at a position of both books.
-fn desks_answer(own: &[u8], copy: &[u8], n: usize, at: usize, desk: usize) -> u8
-    requires { ⌜ BodyInBoth n at (now own) (now copy) ⌝ }
-    ensures { λ r. ⌜ r ≡ first n (λ i. rowAnswer (eqb i desk) (compared (rowIn n (at + suc i * rowLength n) (now (own .entry))) (rowIn n (at + suc i * rowLength n) (now (copy .entry))))) ⌝ }
+// The first refusal of the rows of one pile, desk by desk, which are the n rows from number `from` on, counted from the first body's opening; where there is
+// none, each has its mark.
+fn desks_answer(
+    own: &[u8],
+    copy: &[u8],
+    front: usize,
+    n: usize,
+    from: usize,
+    desk: usize,
+    marks: &mut [bool],
+) -> u8
+    requires { ⌜ DesksAhead front n from (now own) (now copy) (now marks) ⌝ }
+    ensures answer { λ r. ⌜ r ≡ first n (λ i. rowAnswer (eqb i desk) (comparedAt front (rowLength n) (now (own .entry)) (now (copy .entry)) (from + i))) ⌝ }
+    ensures marks { λ r. ⌜ (r ≡ 0 → Marked front (rowLength n) (from + n) (now (own .entry)) (now (copy .entry)) (now (marks .exit))) ⌝ }
 {
     let row = 8 * (n + 1);
-    let mut from = at + row;
     let mut i = 0;
     while i < n {
-        let answer = row_answer(own, copy, from, row, i == desk);
+        let judged = judge_row(own, copy, front + (from + i) * row, row, i == desk);
+        let answer = judged.answer;
         if answer != 0 {
             return answer;
         }
-        from += row;
+        marks[from + i] = judged.later;
         i += 1;
     }
     0
 }
 
-// The first refusal of all rows, by pile and then by desk.
-fn piles_answer(own: &[u8], copy: &[u8], n: usize, p: usize, desk: usize) -> u8
-    requires { ⌜ Alongside n p (now own) (now copy) ⌝ }
-    ensures { λ r. ⌜ r ≡ first p (λ k. first n (λ i. rowAnswer (eqb i desk) (compared (rowIn n (bodyAt n p k + suc i * rowLength n) (now (own .entry))) (rowIn n (bodyAt n p k + suc i * rowLength n) (now (copy .entry)))))) ⌝ }
+// The first refusal of all rows, by pile and then by desk; where there is none, the marks say which rows are later in the copy. Openings are alike, and not
+// looked at again.
+fn piles_answer(own: &[u8], copy: &[u8], n: usize, p: usize, desk: usize, marks: &mut [bool]) -> u8
+    requires { ⌜ PilesAhead n p (now own) (now copy) (now marks) ⌝ }
+    ensures answer { λ r. ⌜ r ≡ first p (λ k. first n (λ i. rowAnswer (eqb i desk)
+        (comparedAt (frontLength p) (rowLength n) (now (own .entry)) (now (copy .entry)) (k * suc n + suc i)))) ⌝ }
+    ensures marks { λ r. ⌜ (r ≡ 0 → Marked (frontLength p) (rowLength n) (p * suc n) (now (own .entry)) (now (copy .entry)) (now (marks .exit))) ⌝ }
 {
+    let front = HEAD + p * ENTRY;
     let mut k = 0;
     while k < p {
-        let at = get4(own, POSITION + k * ENTRY) as usize;
-        let answer = desks_answer(own, copy, n, at, desk);
+        let answer = desks_answer(own, copy, front, n, k * (n + 1) + 1, desk, marks);
         if answer != 0 {
             return answer;
         }
@@ -106,23 +143,29 @@ fn same_piles(own: &[u8], copy: &[u8], n: usize, p: usize) -> bool
     ensures { λ r. ⌜ r ≡ every p (λ k. eqb (pileNumber (now (own .entry)) k) (pileNumber (now (copy .entry)) k)
         and isAlike (compared (rowIn n (bodyAt n p k) (now (own .entry))) (rowIn n (bodyAt n p k) (now (copy .entry))))) ⌝ }
 {
+    let row = 8 * (n + 1);
+    let mut at = HEAD + p * ENTRY;
     let mut k = 0;
     while k < p {
-        if get2(own, HEAD + k * ENTRY) != get2(copy, HEAD + k * ENTRY) {
+        let entry = HEAD + k * ENTRY;
+        if get2(&own[entry..entry + 2], 0) != get2(&copy[entry..entry + 2], 0) {
             return false;
         }
-        let at = get4(own, POSITION + k * ENTRY) as usize;
-        if !alike_at(own, copy, at, 8 * (n + 1)) {
+        if !alike_at(own, copy, at, row) {
             return false;
         }
+        at += (n + 1) * row;
         k += 1;
     }
     true
 }
 
-// All lines of the table, in their order.
-pub(crate) fn take_answer(own: &[u8], copy: &[u8], desk: u8) -> u8
-    ensures { λ r. ⌜ r ≡ takeAnswer desk (now (own .entry)) (now (copy .entry)) ⌝ }
+// All lines of the table, in their order; where none is met, the marks say which rows are later in the copy.
+pub(crate) fn take_answer(own: &[u8], copy: &[u8], desk: u8, marks: &mut [bool]) -> u8
+    requires { ⌜ Blank (now marks) ⌝ }
+    ensures answer { λ r. ⌜ r ≡ takeAnswer desk (now (own .entry)) (now (copy .entry)) ⌝ }
+    ensures marks { λ r. ⌜ (r ≡ 0 → Marked (frontLength (piles (now (own .entry)))) (rowLength (desks (now (own .entry))))
+        (piles (now (own .entry)) * suc (desks (now (own .entry)))) (now (own .entry)) (now (copy .entry)) (now (marks .exit))) ⌝ }
 {
     let mine = check(own);
     if mine != 0 {
@@ -146,5 +189,5 @@ pub(crate) fn take_answer(own: &[u8], copy: &[u8], desk: u8) -> u8
     if !same_piles(own, copy, n, p) {
         return 30;
     }
-    piles_answer(own, copy, n, p, desk as usize)
+    piles_answer(own, copy, n, p, desk as usize, marks)
 }

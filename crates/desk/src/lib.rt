@@ -6,11 +6,12 @@ mod judge;
 mod merge;
 
 use acts::Kind;
-use book::layout::POSITION;
+use book::layout::ENTRY;
+use book::layout::HEAD;
 use enter::enter;
 use judge::take_answer;
+use merge::count_marks;
 use merge::take_rows;
-use number::get4;
 ghost use mathlib.Core.Path.{_≡_};
 ghost use Rattle.rules.specs.Pile.{draw, tip};
 ghost use Rattle.rules.specs.Acts.{spend, give};
@@ -50,6 +51,9 @@ pub fn give_tip(book: &mut [u8], desk: u8, number: u16, receiver: u8, amount: u3
     enter(book, desk, number, Kind::GiveTip(receiver), amount)
 }
 
+// The most rows of a book: 32 openings, and a row of each of 8 desks behind each.
+const ROWS: usize = 288;
+
 // What a take answers: its refusal's number or 0, and how many pile and desk pairs have another row now; 0 beside a refusal's number.
 pub struct Taken {
     pub answer: u8,
@@ -63,13 +67,17 @@ pub fn take(own: &mut [u8], copy: &[u8], desk: u8) -> Taken
     ensures changed { λ r. ⌜ r .changed ≡ takeReport desk (now (own .entry)) (now (copy .entry)) ⌝ }
     ensures book { λ r. ⌜ now (own .exit) ≡ afterTake desk (now (own .entry)) (now (copy .entry)) ⌝ }
 {
-    let answer = take_answer(own, copy, desk);
+    let mut marks = [false; ROWS];
+    let answer = take_answer(own, copy, desk, &mut marks);
     if answer != 0 {
         return Taken { answer, changed: 0 };
     }
     let n = own[1] as usize;
     let p = own[2] as usize;
-    let front = get4(own, POSITION) as usize;
-    let changed = take_rows(own, copy, front, 8 * (n + 1), p * (n + 1));
+    let rows = p * (n + 1);
+    let changed = count_marks(&marks, rows);
+    if changed != 0 {
+        take_rows(own, copy, HEAD + p * ENTRY, 8 * (n + 1), rows, &marks);
+    }
     Taken { answer: 0, changed }
 }

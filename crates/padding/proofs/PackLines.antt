@@ -11,9 +11,11 @@ use borrow.Author.Tests.{le-leb, lt-leb, lt-ltb, le-ltb, eq-eqb, ne-eqb}
 use Rattle.rules.specs.Loops.{_and_, between, flat}
 use Rattle.rules.specs.Refusals.{_when_, _orElse_}
 use Rattle.rules.specs.Numbers.{encode}
-use Rattle.rules.specs.Layout.{bodyLength}
+use Rattle.rules.specs.Layout.{bodyLength, bodyBytes}
+use Rattle.rules.specs.Record.{recordView}
+use Rattle.rules.proofs.Loops.Refusals.{when-accepted}
 use Rattle.rules.proofs.Loops.Left.{stays, becomes}
-use Rattle.padding.specs.Lists.{recordLength, packAnswer, afterPack, usedRow}
+use Rattle.padding.specs.Lists.{recordLength, numbersRecord, packAnswer, afterPack, usedRow}
 use Rattle.padding.proofs.Narrowed.{body-used}
 
 module _ (l : List ℕ) (at : ℕ) (b : List ℕ) where
@@ -49,3 +51,9 @@ module _ (l : List ℕ) (at : ℕ) (b : List ℕ) where
         packed room is put =
             let e : packAnswer l at (length b) ≡ 0 = rw (eq-eqb _ _ sized, le-leb _ _ some, le-leb _ _ few, le-ltb _ _ room) in
             (sym e, becomes _ _ e (rw is at put ∙ ap (sets b at) (body-used (getD l 0 0) few l)))
+
+        -- where nothing refuses it
+        pub pack-leaves : at + bodyLength (getD l 0 0) ≤ length b → {after : List ℕ} → after ≡ afterPack l at b
+            → after ≡ sets b at (bodyBytes (getD l 0 0) (recordView (numbersRecord l)))
+        unfolding packAnswer afterPack between _and_ _when_ _orElse_
+        pack-leaves room is = is ∙ when-accepted _ _ _ (rw (eq-eqb _ _ sized, le-leb _ _ some, le-leb _ _ few, le-ltb _ _ room))

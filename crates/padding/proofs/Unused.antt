@@ -16,17 +16,12 @@ use Rattle.rules.specs.Pile.{Side, draw, tip, Pile}
 use Rattle.rules.specs.Layout.{column, earnedColumn}
 use Rattle.rules.specs.Record.{Record, recordCell, recordView, unusedShares, unusedPlaces, rowPlaces, tipsPlace}
 use Rattle.rules.proofs.Loops.Logic.{same, and-left, and-right, and-both, or-first, or-second}
-use Rattle.rules.proofs.Loops.Every.{every-at, every-all, every-next}
+use Rattle.rules.proofs.Loops.Every.{every-at, every-all}
 use Rattle.rules.proofs.Pile.Facts.{both-all}
 use Rattle.rules.proofs.File.Body.{by-column, column-below}
 use Rattle.rules.proofs.Record.Unused.{unused-share, unused-earned, unused-give}
 use Rattle.padding.specs.Lists.{numbersRecord}
 use Rattle.padding.proofs.Cells.{record-cell}
-
--- a test that passes one more
-pub every-more : (k : ℕ) (t : ℕ → Bool) → t k ≡ true → every (k + 1) t ≡ every k t
-every-more k t e =
-    same _ _ (λ all. every-all k (λ j l. every-at (k + 1) t all j (omega arith))) (λ all. every-next k t all e)
 
 -- where a row's gives or shares of a side start
 abbrev halfAt : Side → ℕ

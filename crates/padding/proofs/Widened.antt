@@ -27,12 +27,12 @@ run-in : (l : List ℕ) (at m : ℕ) (f : ℕ → ℕ) (j : ℕ) → at + m ≤ 
 run-in l at m f j fits j<m =
     getD-sets-in l at (list m f) j (omega (arith, length-list m f)) (omega (arith, length-list m f)) ∙ getD-list m f 0 j j<m
 
-run-out : (l : List ℕ) (at m : ℕ) (f : ℕ → ℕ) (k : ℕ) → (k < at) ⊎ (at + m ≤ k) → getD (sets l at (list m f)) k 0 ≡ getD l k 0
+pub run-out : (l : List ℕ) (at m : ℕ) (f : ℕ → ℕ) (k : ℕ) → (k < at) ⊎ (at + m ≤ k) → getD (sets l at (list m f)) k 0 ≡ getD l k 0
 run-out l at m f k apart =
     getD-sets-other l at (list m f) k (subst⁻¹ (λ (x : ℕ). (k < at) ⊎ (at + x ≤ k)) (length-list m f) apart)
 
 -- the last n numbers of a run among zeros, as 8 places
-run-padded : (l : List ℕ) (at d n : ℕ) {m : ℕ} (f v : ℕ → ℕ) → m ≡ d + n → at + m ≤ length l → ((k : ℕ) → at + m ≤ k → k < at + (d + 8) → getD l k 0 ≡ 0)
+pub run-padded : (l : List ℕ) (at d n : ℕ) {m : ℕ} (f v : ℕ → ℕ) → m ≡ d + n → at + m ≤ length l → ((k : ℕ) → at + m ≤ k → k < at + (d + 8) → getD l k 0 ≡ 0)
     → ((j : ℕ) → f (d + j) ≡ v j) → (j : ℕ) → j < 8 → getD (sets l at (list m f)) (at + (d + j)) 0 ≡ padded n v j
 run-padded l at d n {m} f v size fits zeros is j j<8 =
     by-cases (decLt j n) (λ j<n. run-in l at m f (d + j) fits (omega arith) ∙ is j ∙ sym (padded-used n v j j<n))

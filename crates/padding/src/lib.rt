@@ -20,10 +20,10 @@ pub(crate) const PLACES: usize = 8;
 pub(crate) const ROW: usize = 2 + 2 * PLACES;
 
 // Where a row's tip gives start, and the opening's tip shares.
-pub(crate) const TIPS: usize = 2 + PLACES;
+pub const TIPS: usize = 2 + PLACES;
 
 // Where the opening, the shares and the tallies of a record start in its list, and how long that is.
-pub(crate) const OPENING_AT: usize = 1;
+pub const OPENING_AT: usize = 1;
 
 pub const SHARES_AT: usize = OPENING_AT + 2;
 

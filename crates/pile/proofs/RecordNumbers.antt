@@ -27,7 +27,7 @@ pub whole-run : (l : List ℕ) (at m : ℕ) → at + m ≤ length l → sets (re
 whole-run l at m fits = sets-to-end (replicate m 0) 0 (part at m l) (omega (arith, length-part at m l fits, length-replicate {A = ℕ} m 0))
 
 module _ (r : Record) (shares : length (r .shares) ≡ sharePlaces) (tallies : length (r .tallies) ≡ tallyPlaces) where
-  length-record : length (recordNumbers r) ≡ recordLength
+  pub length-record : length (recordNumbers r) ≡ recordLength
   unfolding recordNumbers bodyNumbers
   length-record = simp length-append (omega (arith, shares, tallies))
 
@@ -90,8 +90,11 @@ module _ (n at : ℕ) (b : List ℕ) where
   by-test : (t : Bool) → there ≡ t → Listed (afterPad n at b (replicate recordLength 0)) (bodyRecord n b at)
   unfolding afterPad bodyRecord between
   by-test true e =
-      rw (e, when-accepted _ (sets (replicate recordLength 0) 0 (recordNumbers R)) (replicate recordLength 0) (answered e),
-      all-numbers R (length-shares n (bodyView n b at)) (length-tallies n (bodyView n b at)))
+      rw (
+        e,
+        when-accepted _ (sets (replicate recordLength 0) 0 (recordNumbers R)) (replicate recordLength 0) (answered e),
+        all-numbers R (length-shares n (bodyView n b at)) (length-tallies n (bodyView n b at)),
+      )
       (numbers-listed (leb-true _ _ (and-right _ _ (and-left _ _ e))))
   by-test false e = rw (e, when-refused _ (sets (replicate recordLength 0) 0 (recordNumbers R)) (replicate recordLength 0) (refused _ refl e)) zeros-listed
 

@@ -1,3 +1,2 @@
 pub mod Queries
 pub mod Contents
-pub mod Numbers

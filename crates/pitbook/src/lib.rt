@@ -4,7 +4,6 @@ pub mod acts;
 pub mod books;
 pub mod compare;
 pub mod contents;
-mod copies;
 pub mod lists;
 pub mod queries;
 pub mod records;

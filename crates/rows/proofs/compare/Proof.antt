@@ -11,7 +11,7 @@ use Rattle.rules.specs.Loops.{every}
 use Rattle.rules.specs.Numbers.{number, part}
 use Rattle.rules.specs.Rows.{atLeast, numbersOf, places, compared}
 use Rattle.rules.proofs.Loops.Logic.{holds, fails}
-use Rattle.rules.proofs.Bytes.Numbers.{number-part}
+use Rattle.rules.proofs.Bytes.Numbers.{number-read}
 use Rattle.rules.proofs.Take.RowOrder.{orderBy, at-least-fails, at-least-stays}
 use Rattle.rules.proofs.Take.Compared.{no-row, lengths-differ, by-tests}
 use Rattle.rows.proofs.compare.Statement.{statement}
@@ -39,12 +39,6 @@ returns-2 c = lengths-differ _ _ (c .if2 .taken)
 loop-holds : tie.Need-loop-holds Inv-loop μ-loop
 unfolding atLeast every
 loop-holds c = (search needs, refl, refl)
-
--- a number read from a part of 4 bytes
-read : (row : List ℕ) (at x : ℕ) → x ≡ number 4 (part at (at + 4 - at) row) 0 → x ≡ number 4 row at
-read row at x e =
-    let size : at + 4 - at ≡ 4 = omega arith in
-    rw size at e ∙ number-part 4 row at 4 0 (omega arith) ∙ ap (number 4 row) (add-zero at)
 
 mul-at : tie.Need-mul-at Inv-loop μ-loop
 mul-at c = search needs
@@ -92,8 +86,8 @@ loop-again c =
     let turn = x .before .before in
     let rows = start (turn .before .before .before .before) .args in
     let loop = turn .before .loop in
-    let x-is = read (rows .mine .now) (loop .c * 4) _ (x .get4 .ensures) in
-    let y-is = read (rows .copy .now) (loop .c * 4) _ (y .get42 .ensures) in (
+    let x-is = number-read (rows .mine .now) (loop .c * 4) (x .get4 .ensures) in
+    let y-is = number-read (rows .copy .now) (loop .c * 4) (y .get42 .ensures) in (
       search needs,
       ⊎-elim (λ w. w .1 ∙ sym (at-least-fails _ _ _ x-is y-is (w .0 .taken)))
           (λ w. w .1 ∙ loop .inv .1 ∙ sym (at-least-stays _ _ _ x-is y-is (w .0 .left))) (c .before .if3 .came),

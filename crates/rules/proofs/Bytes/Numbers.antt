@@ -1,6 +1,6 @@
 -- Reading a number that was written, and writing a number that was read.
 -- Assumes nothing.
-use Prim.Native.Nat.{ℕ, zero, suc, _+_, _*_, _/_, _%_, _^_, _≤_, _<_}
+use Prim.Native.Nat.{ℕ, zero, suc, _+_, _-_, _*_, _/_, _%_, _^_, _≤_, _<_}
 use native.Mathlib.Nat.{zero-lt-suc, add-zero, add-suc, suc-add, suc-mul, not-suc-le-zero, le-of-suc-le-suc, suc-le-suc-iff, div-lt-iff-lt-mul, mod-add-div, mod-lt, pow-suc}
 use native.Mathlib.Omega.{arith}
 use mathlib.Core.Path.{_≡_, refl, ap, ap₂, sym, subst, _∙_}
@@ -43,6 +43,12 @@ pub number-part : (w : ℕ) (b : List ℕ) (at m k : ℕ) → k + w ≤ m → nu
 number-part w b at m k l =
     number-cong w (part at m b) b k (at + k) (λ j j<w.
     getD-take m (drop at b) (k + j) 0 (omega arith) ∙ getD-drop at b (k + j) 0 ∙ ap (λ (n : ℕ). getD b n 0) (omega arith))
+
+-- of a part of four bytes
+pub number-read : (b : List ℕ) (at : ℕ) {x : ℕ} → x ≡ number 4 (part at (at + 4 - at) b) 0 → x ≡ number 4 b at
+number-read b at e =
+    let size : at + 4 - at ≡ 4 = omega arith in
+    rw size at e ∙ number-part 4 b at 4 0 (omega arith) ∙ ap (number 4 b) (add-zero at)
 
 pub number-append : (w : ℕ) (a b : List ℕ) (k : ℕ) → number w (a ++ b) (length a + k) ≡ number w b k
 number-append w a b k =

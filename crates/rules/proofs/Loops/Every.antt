@@ -45,6 +45,10 @@ pub every-next : (k : ℕ) (t : ℕ → Bool) → every k t ≡ true → t k ≡
 unfolding every
 every-next k t e d = ap (λ (n : ℕ). every n t) (add-one k) ∙ and-both e d
 
+pub every-more : (k : ℕ) (t : ℕ → Bool) → t k ≡ true → every (k + 1) t ≡ every k t
+unfolding every
+every-more k t e = ap (λ (n : ℕ). every n t) (add-one k) ∙ ap (λ (u : Bool). every k t and u) e ∙ and-true (every k t)
+
 pub every-stops : (n : ℕ) (t : ℕ → Bool) (k : ℕ) → k < n → t k ≡ false → every n t ≡ false
 every-stops n t k l e = ⊎-elim (λ a. absurd (true≢false (sym (every-at n t a k l) ∙ e))) (λ a. a) (decided (every n t))
 

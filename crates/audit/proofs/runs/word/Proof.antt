@@ -5,7 +5,7 @@ use native.Mathlib.Nat.{add-zero}
 use native.Mathlib.Omega.{arith}
 use mathlib.Core.Path.{_≡_, ap, _∙_}
 use Rattle.rules.specs.Numbers.{number}
-use Rattle.rules.proofs.Bytes.Numbers.{number-part}
+use Rattle.rules.proofs.Bytes.Numbers.{number-read}
 use borrow.Author.Needs.{needs}
 use Rattle.audit.proofs.runs.word.Statement.{statement}
 use Rattle.audit.proofs.runs.word.Tie as tie
@@ -30,9 +30,7 @@ cast-result c = search needs
 
 returns : tie.Need-returns
 returns c =
-    let a = c .before .before .before .args in
-    let size : a .at + 4 - a .at ≡ 4 = omega arith in
-    (rw size at (c .get4 .ensures) ∙ number-part 4 (a .bytes .now) (a .at) 4 0 (omega arith) ∙ ap (number 4 (a .bytes .now)) (add-zero (a .at)), search needs)
+    let a = c .before .before .before .args in (number-read (a .bytes .now) (a .at) (c .get4 .ensures), search needs)
 
 pub word-spec : {M : Type 1} → statement M
 word-spec =

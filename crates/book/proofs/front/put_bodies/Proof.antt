@@ -10,7 +10,7 @@ use Rattle.rules.proofs.Loops.Refusals.{first-at}
 use Rattle.rules.proofs.File.Body.{length-body}
 use Rattle.rules.proofs.Loops.Writing.{Written, none-written, next-written, all-written}
 use Rattle.book.proofs.Lengths.{body-within, pile-listed}
-use Rattle.book.proofs.Opened.{body, record-body}
+use Rattle.book.proofs.Opened.{body, put-given}
 use borrow.Author.Needs.{needs}
 use Rattle.book.proofs.front.put_bodies.Statement.{statement}
 use Rattle.book.proofs.front.put_bodies.Tie as tie
@@ -25,7 +25,7 @@ abbrev start : tie.At-loop Inv-loop μ-loop → tie.Start Inv-loop μ-loop
 start c = c .before .before .before .before .before
 
 abbrev asked : tie.After-slice-known2 Inv-loop μ-loop → tie.After-given-pile Inv-loop μ-loop
-asked c = c .before .before .before .before .before
+asked c = c .before .before .before .before .before .before .before
 
 abbrev turn : tie.After-slice-known2 Inv-loop μ-loop → tie.In-loop Inv-loop μ-loop
 turn c = asked c .before
@@ -46,8 +46,14 @@ loop-holds c = (c .body-at .ensures, none-written)
 given-pile-requires : tie.Need-given-pile-requires Inv-loop μ-loop
 given-pile-requires c κs = search (needs, pile-listed (start (c .before) .pre .openings .listed) (c .loop-test .taken))
 
-save-requires : tie.Need-save-requires Inv-loop μ-loop
-save-requires c κs = search (needs, room (c .before .before .before))
+numbers-requires : tie.Need-numbers-requires Inv-loop μ-loop
+numbers-requires c κs = search needs
+
+slice-aggregate-pack : tie.Need-slice-aggregate-pack Inv-loop μ-loop
+slice-aggregate-pack c = search needs
+
+pack-requires : tie.Need-pack-requires Inv-loop μ-loop
+pack-requires c κs = search needs
 
 add-at : tie.Need-add-at Inv-loop μ-loop
 add-at c = search (needs, room (turn c))
@@ -69,8 +75,8 @@ loop-again c =
       search needs,
       next-written _ (λ j _. length-body (s .args .n) (givenPile (s .args .n) (s .args .numbers .now) j)) (at .loop .inv .1) more
           (search needs)
-          (rw (record-body (s .args .n) (s .args .numbers .now) (at .loop .k) (s .pre .openings .listed .desks-most) (given .1 (given .0 ∙ lawful)))
-          at (c .before .before .save .ensures)),
+          (put-given (s .args .n) (s .args .numbers .now) (at .loop .k) (s .pre .openings .desks-least) (s .pre .openings .listed .desks-most) _ _ (room (turn c))
+          (given .1 (given .0 ∙ lawful)) (c .before .before .before .before .before .numbers .ensures) (c .before .before .pack .ensures .1)),
     )
 
 same-length : tie.Need-same-length Inv-loop μ-loop
@@ -89,7 +95,9 @@ put-bodies-spec =
     body-at-requires
     loop-holds
     given-pile-requires
-    save-requires
+    numbers-requires
+    slice-aggregate-pack
+    pack-requires
     add-at
     add-k
     loop-less

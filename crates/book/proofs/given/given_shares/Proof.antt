@@ -6,7 +6,7 @@ use mathlib.Core.Path.{ap}
 use lib.ListN.{getD}
 use borrow.Author.Needs.{needs}
 use Rattle.rules.specs.Opening.{given, givenPile}
-use Rattle.book.proofs.Loaded.{two-runs}
+use Rattle.book.proofs.GivenShares.{two-runs}
 use Rattle.book.proofs.given.given_shares.Statement.{statement}
 use Rattle.book.proofs.given.given_shares.Tie as tie
 
@@ -45,7 +45,7 @@ returns c =
     let start = one .before .before .before in
     let at : ℕ → ℕ = λ i. getD (start .args .numbers .now) i 0 in
     rw (two .copy-run2 .ensures, one .copy-run .ensures)
-    (two-runs (start .args .n) _ (start .pre .desks-most) _ _ (λ j _. ap at (omega arith)) (λ j _. ap at (omega arith)))
+    (two-runs (start .args .n) _ (start .pre .desks-most) _ _ (λ j. ap at (omega arith)) (λ j. ap at (omega arith)))
 
 pub given-shares-spec : {M : Type 1} → statement M
 given-shares-spec =

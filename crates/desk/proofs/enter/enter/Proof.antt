@@ -75,9 +75,6 @@ get4-requires c κs = search needs
 cast-rights-in : tie.Need-cast-rights-in
 cast-rights-in c = search (needs, facts (c .before .before .before .before .before) .sizes .desks-most)
 
-cast-rights-in-2 : tie.Need-cast-rights-in-2
-cast-rights-in-2 c = search (needs, facts (c .before .before .before .before .before) .sizes .desks-most)
-
 side-of-requires : tie.Need-side-of-requires
 side-of-requires c κs = search needs
 
@@ -125,7 +122,6 @@ enter-spec =
     add-at
     get4-requires
     cast-rights-in
-    cast-rights-in-2
     side-of-requires
     rights-in-requires
     receiver-wrong-for-requires

@@ -1,79 +1,80 @@
--- `desks_answer` asks one desk's rows after the other, and stops at the first that are refused.
+-- `desks_answer` judges one desk's rows after the other and marks each; it stops at the first that are refused.
 -- Assumes nothing.
-use Prim.Native.Nat.{ℕ, suc, _+_, _-_, _*_, suc-le-suc}
-use native.Mathlib.Nat.{zero-lt-suc, suc-mul}
-use native.Mathlib.Numerals.{add-one}
+use Prim.Native.Nat.{ℕ, _+_, _-_, _*_}
 use native.Mathlib.Omega.{arith}
-use mathlib.Core.Path.{_≡_, ap, _∙_}
+use mathlib.Core.Path.{_≡_, refl}
 use mathlib.Core.List.{List}
+use lib.ListN.{length}
 use lib.Dec.{eqb}
 use borrow.Author.Needs.{needs}
 use Rattle.rules.specs.Layout.{rowLength}
-use Rattle.rules.specs.Rows.{compared}
 use Rattle.rules.specs.Take.{rowAnswer}
-use Rattle.rules.proofs.File.Body.{row-within}
 use Rattle.book.proofs.Passed.{Passed, none-asked, next-passed, refused-first, all-passed}
-use Rattle.desk.specs.Both.{InBoth, rowIn}
+use Rattle.desk.specs.Both.{InBoth}
+use Rattle.desk.specs.Marks.{comparedAt, Marked}
+use Rattle.desk.proofs.Marking.{row-in-both, next-marked}
 use Rattle.desk.proofs.judge.desks_answer.Statement.{statement}
 use Rattle.desk.proofs.judge.desks_answer.Tie as tie
 
-abbrev answers : List ℕ → List ℕ → ℕ → ℕ → ℕ → ℕ → ℕ
-answers own copy n at desk i = rowAnswer (eqb i desk) (compared (rowIn n (at + suc i * rowLength n) own) (rowIn n (at + suc i * rowLength n) copy))
+abbrev answers : List ℕ → List ℕ → ℕ → ℕ → ℕ → ℕ → ℕ → ℕ
+answers own copy front n from desk i = rowAnswer (eqb i desk) (comparedAt front (rowLength n) own copy (from + i))
 
 abbrev Inv-loop : tie.InvT-loop
-Inv-loop own copy n at desk row from₀ i₀ from i = (from ≡ at + suc i * rowLength n) × Passed n (answers own copy n at desk) i
+Inv-loop own copy front n from desk marks₀ row i₀ marks i =
+    Passed n (answers own copy front n from desk) i × Marked front (rowLength n) (from + i) own copy marks × (length marks ≡ length marks₀)
 
 abbrev μ-loop : tie.MeasureT-loop
-μ-loop own copy n at desk row from₀ i₀ from i = n - i
+μ-loop own copy front n from desk marks₀ row i₀ marks i = n - i
 
 abbrev start : tie.At-loop Inv-loop μ-loop → tie.Start Inv-loop μ-loop
-start c = c .before .before .before
+start c = c .before .before .before .before
 
 -- the rows of this turn lie within their books
-within : (c : tie.In-loop Inv-loop μ-loop) → let a = start (c .before) .args in
-    InBoth (c .before .loop .from) (8 * (a .n + 1)) (a .own .now) (a .copy .now)
+within : (c : tie.In-loop Inv-loop μ-loop) → let at = c .before in let a = start at .args in
+    InBoth (a .front + (a .from + at .loop .i) * (8 * (a .n + 1))) (8 * (a .n + 1)) (a .own .now) (a .copy .now)
 unfolding rowLength
-within c =
-    let s = start (c .before) in
-    let row = row-within (s .args .n) (suc (c .before .loop .i)) (suc-le-suc (c .loop-test .taken)) in
-    record {
-      in-own = omega (arith, c .before .loop .inv .0, row, s .pre .within .in-own);
-      in-copy = omega (arith, c .before .loop .inv .0, row, s .pre .within .in-copy);
-    }
-
-answered : (c : tie.After-row-answer Inv-loop μ-loop) → let at = c .before .before in let a = start at .args in
-    c .row-answer .result ≡ answers (a .own .now) (a .copy .now) (a .n) (a .at) (a .desk) (at .loop .i)
-unfolding rowLength
-answered c =
-    let at = c .before .before in
-    let a = start at .args in
-    c .row-answer .ensures
-    ∙ ap (λ (x : ℕ). rowAnswer (eqb (at .loop .i) (a .desk)) (compared (rowIn (a .n) x (a .own .now)) (rowIn (a .n) x (a .copy .now)))) (at .loop .inv .0)
+within c = let s = start (c .before) in row-in-both (s .pre .rows) (s .args .from + c .before .loop .i) (omega arith)
 
 add-row : tie.Need-add-row Inv-loop μ-loop
+unfolding rowLength
 add-row c = search needs
 
 mul-row : tie.Need-mul-row Inv-loop μ-loop
+unfolding rowLength
 mul-row c = search needs
 
-add-from : tie.Need-add-from Inv-loop μ-loop
-unfolding rowLength
-add-from c =
-    let s = c .before .before in omega (arith, row-within (s .args .n) 0 (zero-lt-suc (s .args .n)), s .pre .within .in-own)
-
 loop-holds : tie.Need-loop-holds Inv-loop μ-loop
-unfolding rowLength
-loop-holds c = (omega arith, none-asked)
+loop-holds c =
+    let s = c .before .before .before in
+    let none : s .args .from + 0 ≡ s .args .from = omega arith in
+    (none-asked, rw none (s .pre .before), refl)
 
-row-answer-requires : tie.Need-row-answer-requires Inv-loop μ-loop
-row-answer-requires c κs = within c
+add-judge-row : tie.Need-add-judge-row Inv-loop μ-loop
+add-judge-row c = search needs
+
+mul-judge-row : tie.Need-mul-judge-row Inv-loop μ-loop
+mul-judge-row c = omega (arith, within c .in-own)
+
+add-judge-row-2 : tie.Need-add-judge-row-2 Inv-loop μ-loop
+add-judge-row-2 c = omega (arith, within c .in-own)
+
+judge-row-requires : tie.Need-judge-row-requires Inv-loop μ-loop
+judge-row-requires c κs = within c
+
+same-length : tie.Need-same-length Inv-loop μ-loop
+same-length c = search needs
 
 returns : tie.Need-returns Inv-loop μ-loop
+unfolding rowLength
 returns c =
-    let now = c .before .before in refused-first (now .before .loop .inv .1) (now .loop-test .taken) (answered (c .before)) (c .if1 .taken)
+    let now = c .before .before in
+    (refused-first (now .before .loop .inv .0) (now .loop-test .taken) (c .before .judge-row .ensures .0) (c .if1 .taken), λ z. absurd (c .if1 .taken z))
 
-add-from-2 : tie.Need-add-from-2 Inv-loop μ-loop
-add-from-2 c = omega (arith, within (c .before .before) .in-own)
+add-marks : tie.Need-add-marks Inv-loop μ-loop
+add-marks c = search needs
+
+slice-write-marks : tie.Need-slice-write-marks Inv-loop μ-loop
+slice-write-marks c = search needs
 
 add-i : tie.Need-add-i Inv-loop μ-loop
 add-i c = search needs
@@ -85,13 +86,23 @@ loop-again : tie.Need-loop-again Inv-loop μ-loop
 unfolding rowLength
 loop-again c =
     let now = c .before .before in
-    let i = now .before .loop .i in (
-      rw (add-one i) (omega (arith, now .before .loop .inv .0, suc-mul (suc i) (rowLength (start (now .before) .args .n)))),
-      next-passed (now .before .loop .inv .1) (now .loop-test .taken) (answered (c .before)) (c .if1 .left),
+    let at = now .before in
+    let from = start at .args .from in
+    let i = at .loop .i in
+    let next : from + (i + 1) ≡ from + i + 1 = omega arith in (
+      next-passed (at .loop .inv .0) (now .loop-test .taken) (c .before .judge-row .ensures .0) (c .if1 .left),
+      rw next (next-marked (at .loop .inv .1) (omega (arith, start at .pre .room)) (c .before .judge-row .ensures .1)),
+      search needs,
     )
 
+same-length-2 : tie.Need-same-length-2 Inv-loop μ-loop
+same-length-2 c = search needs
+
 returns-2 : tie.Need-returns-2 Inv-loop μ-loop
-returns-2 c = all-passed (c .before .loop .inv .1) (omega arith)
+returns-2 c =
+    let at = c .before in
+    let done : at .loop .i ≡ start at .args .n = omega arith in
+    (all-passed (at .loop .inv .0) (omega arith), λ _. rw done at (at .loop .inv .1))
 
 pub desks-answer-spec : {M : Type 1} → statement M
 desks-answer-spec =
@@ -101,12 +112,17 @@ desks-answer-spec =
     μ-loop
     add-row
     mul-row
-    add-from
     loop-holds
-    row-answer-requires
+    add-judge-row
+    mul-judge-row
+    add-judge-row-2
+    judge-row-requires
+    same-length
     returns
-    add-from-2
+    add-marks
+    slice-write-marks
     add-i
     loop-less
     loop-again
+    same-length-2
     returns-2)

@@ -10,7 +10,7 @@ use borrow.Author.Needs.{needs}
 use Rattle.rules.specs.Loops.{list}
 use Rattle.rules.proofs.Loops.Pieces.{length-list, getD-list}
 use Rattle.rules.proofs.Loops.Parts.{part-is}
-use Rattle.book.proofs.Pieces.{Written, none-written, next-number, all-numbers}
+use Rattle.rules.proofs.Loops.Writing.{Written, none-written, next-number, all-numbers}
 use Rattle.desk.proofs.merge.copy_bytes.Statement.{statement}
 use Rattle.desk.proofs.merge.copy_bytes.Tie as tie
 

@@ -9,8 +9,7 @@ use lib.Dec.{eqb}
 use borrow.Author.Tests.{eq-eqb, ne-eqb}
 use borrow.Author.Needs.{needs}
 use Rattle.rules.specs.Loops.{every}
-use Rattle.rules.proofs.Loops.Every.{every-stops}
-use Rattle.padding.proofs.Unused.{every-more}
+use Rattle.rules.proofs.Loops.Every.{every-more, every-stops}
 use Rattle.padding.proofs.rest.all_zero.Statement.{statement}
 use Rattle.padding.proofs.rest.all_zero.Tie as tie
 

@@ -6,7 +6,7 @@ use native.Mathlib.Omega.{arith}
 use mathlib.Core.Path.{_≡_, ap, _∙_}
 use mathlib.Core.List.{[], _∷_}
 use Rattle.rules.specs.Numbers.{number}
-use Rattle.rules.proofs.Bytes.Numbers.{number-part}
+use Rattle.rules.proofs.Bytes.Numbers.{number-read}
 use Rattle.rules.proofs.Loops.Writing.{Written, none-written, next-number, all-numbers}
 use borrow.Author.Needs.{needs}
 use Rattle.padding.proofs.widen.fill.Statement.{statement}
@@ -62,10 +62,7 @@ loop-again c =
     let at : tie.At-loop Inv-loop μ-loop = c .before .before .before in
     let a = at .before .before .before .args in
     let from : ℕ = a .from + at .loop .k * 4 in
-    let size : from + 4 - from ≡ 4 = omega arith in
-    let read : c .get4 .result ≡ number 4 (a .bytes .now) from
-    = rw size at (c .get4 .ensures) ∙ number-part 4 (a .bytes .now) from 4 0 (omega arith) ∙ ap (number 4 (a .bytes .now)) (add-zero from) in
-    rw read (next-number (at .loop .inv) (c .before .before .loop-test .taken))
+    rw (number-read (a .bytes .now) from (c .get4 .ensures)) (next-number (at .loop .inv) (c .before .before .loop-test .taken))
 
 same-length : tie.Need-same-length Inv-loop μ-loop
 same-length c = search needs
