@@ -1,6 +1,6 @@
 -- What a query for a bound replies, from what the query for the rights that keep it told, and from what a book was found to have.
 -- Assumes nothing.
-use Prim.Native.Nat.{ℕ, _+_, _≤_, _<_}
+use Prim.Native.Nat.{ℕ, _+_, _-_, _≤_, _<_}
 use native.Mathlib.Decide.{ℕ-discrete}
 use native.Mathlib.Omega.{arith}
 use mathlib.Core.Path.{_≡_, ap, sym, _∙_}
@@ -8,13 +8,14 @@ use mathlib.Core.Logic.{by-cases}
 use mathlib.Core.List.{List}
 use borrow.Author.Tests.{ltb-true}
 use Rattle.rules.specs.Refusals.{refused, value, reply}
-use Rattle.rules.specs.Numbers.{number}
+use Rattle.rules.specs.Numbers.{number, part}
 use Rattle.rules.specs.Pile.{Side, Pile, rights}
 use Rattle.rules.specs.Layout.{cellAt, bodyView, desks}
 use Rattle.rules.specs.Book.{deskAnswer}
 use Rattle.rules.specs.Record.{Record, recordView, recordAnswer, recordDeskAnswer, recordRightsReply, deskStart}
 use Rattle.rules.specs.Bounds.{bound, boundReply, recordBoundReply}
 use Rattle.rules.proofs.Loops.Refusals.{orElse-first, orElse-rest, when-not-done, reply-refused, reply-value}
+use Rattle.rules.proofs.Bytes.Numbers.{number-part}
 use Rattle.rules.proofs.Record.Facts.{record-facts}
 use Rattle.rules.proofs.Record.Bounds.{rights-room}
 use Rattle.audit.specs.Audits.{rightsIn}
@@ -64,18 +65,18 @@ module _ (r : Record) (s : Side) (i : ℕ) where
         ∙ reply-value _ _ (rights-told .0)
 
 -- of a book: the opening and the rights that were read of a sound body
-module _ (i : ℕ) (b : List ℕ) {at : ℕ} (sound : SoundBody i b at) (s : Side) {floor top x : ℕ} (floor-is : floor ≡ number 4 b at)
-    (top-is : top ≡ number 4 b (at + 4)) (rights-are : x ≡ rightsIn s (desks b) at b i) where
+module _ (i : ℕ) (b : List ℕ) {at : ℕ} (sound : SoundBody i b at) (s : Side) {floor top x : ℕ} (floor-is : floor ≡ number 4 (part at (at + 8 - at) b) 0)
+    (top-is : top ≡ number 4 (part at (at + 8 - at) b) 4) (rights-are : x ≡ rightsIn s (desks b) at b i) where
   abbrev P : Pile
   P = bodyView (desks b) b at
 
   floor-read : floor ≡ P .floor
   unfolding cellAt
-  floor-read = floor-is ∙ ap (number 4 b) (omega arith)
+  floor-read = floor-is ∙ number-part 4 b at (at + 8 - at) 0 (omega arith) ∙ ap (number 4 b) (omega arith)
 
   top-read : top ≡ P .top
   unfolding cellAt
-  top-read = top-is ∙ ap (number 4 b) (omega arith)
+  top-read = top-is ∙ number-part 4 b at (at + 8 - at) 4 (omega arith) ∙ ap (number 4 b) (omega arith)
 
   pub room-read : floor + x ≤ top
   room-read = rw (floor-read, top-read, rights-read i b sound s rights-are) (rights-room (desks b) P (pile-sound i b sound) s i (sound .desk))

@@ -48,5 +48,7 @@ pub(crate) fn book_bound(book: &[u8], side: u8, desk: u8, found: Sought) -> Amou
     let n = book[1] as usize;
     let start = found.start;
     let rights = rights_in(book, start, n, side, desk) as u32;
-    Amount::Tonnes(bound_of(side, get4(book, start), get4(book, start + 4), rights))
+    // Of a part that is known to be there a number is read without a test.
+    let opening = &book[start..start + 8];
+    Amount::Tonnes(bound_of(side, get4(opening, 0), get4(opening, 4), rights))
 }

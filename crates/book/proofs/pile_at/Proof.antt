@@ -20,7 +20,7 @@ shared-slice-read-of-body : tie.Need-shared-slice-read-of-body
 shared-slice-read-of-body c = search needs
 
 cast-of-body : tie.Need-cast-of-body
-cast-of-body c = search (needs, c .shared-slice-known2 .given 1)
+cast-of-body c = search (needs, c .shared-slice-known2 .given 1, c .shared-slice-known2 .given 2)
 
 of-body-requires : tie.Need-of-body-requires
 of-body-requires c κs = search needs

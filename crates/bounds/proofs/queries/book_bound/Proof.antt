@@ -1,7 +1,9 @@
 -- `book_bound` reads the body that was found, which is sound.
 -- Assumes nothing.
+use Prim.Native.Nat.{_+_, _≤_}
 use native.Mathlib.Omega.{arith}
 use mathlib.Core.Path.{ap, _∙_}
+use lib.ListN.{length}
 use Rattle.rules.specs.Refusals.{value}
 use Rattle.rules.specs.Layout.{desks}
 use Rattle.rules.proofs.Loops.Refusals.{reply-refused, reply-value}
@@ -38,25 +40,39 @@ rights-in-requires c κs = search needs
 cast-rights : tie.Need-cast-rights
 cast-rights c = search (needs, rights-small _ _ (sound (one c)) _ (c .rights-in .ensures))
 
+-- the opening lies within the body, which lies within the book
+opening-within : (c : tie.After-rights-in) → let a = start (one c) .args in a .found .start + 8 ≤ length (a .book .now)
+opening-within c =
+    let f = one c in
+    omega (arith, sound f .body .within, row-within (desks (start f .args .book .now)) 0 (omega arith))
+
+add-opening : tie.Need-add-opening
+add-opening c = search (needs, opening-within c)
+
+sub-opening : tie.Need-sub-opening
+sub-opening c = search needs
+
+part-opening-start : tie.Need-part-opening-start
+part-opening-start c = search needs
+
+part-opening-end : tie.Need-part-opening-end
+part-opening-end c = search (needs, opening-within c)
+
 get4-requires : tie.Need-get4-requires
 get4-requires c κs = search needs
-
--- the top stands in the first row of the body, which lies within the book
-add-get4 : tie.Need-add-get4
-add-get4 c = let f = one (c .before) in search (needs, sound f .body .within, row-within (desks (start f .args .book .now)) 0 (omega arith))
 
 get4-requires-2 : tie.Need-get4-requires-2
 get4-requires-2 c κs = search needs
 
 bound-of-requires : tie.Need-bound-of-requires
 bound-of-requires c κs =
-    let read = c .before .before in
+    let read = c .before .before .before in
     room-read _ _ (sound (one read)) _ (c .before .get4 .ensures) (c .get42 .ensures) (read .rights-in .ensures)
 
 returns-2 : tie.Need-returns-2
 returns-2 c =
     let top = c .before in
-    let read = top .before .before in
+    let read = top .before .before .before in
     ap value (bound-read _ _ (sound (one read)) _ (top .before .get4 .ensures) (top .get42 .ensures) (read .rights-in .ensures) (c .bound-of .ensures))
     ∙ reply-value _ _ (one read .if1 .left)
 
@@ -69,8 +85,11 @@ book-bound-spec =
     cast-n
     rights-in-requires
     cast-rights
+    add-opening
+    sub-opening
+    part-opening-start
+    part-opening-end
     get4-requires
-    add-get4
     get4-requires-2
     bound-of-requires
     returns-2)
