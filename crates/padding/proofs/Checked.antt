@@ -1,10 +1,11 @@
 -- A list's record is judged as the body that it packs to, and by the zeros past n.
 -- Assumes nothing.
 use Prim.Native.Nat.{ℕ, suc, _+_, _*_, _≤_, _<_}
+use native.Mathlib.Decide.{ℕ-discrete}
 use native.Mathlib.Nat.{le-of-eq}
 use native.Mathlib.Omega.{arith}
-use mathlib.Core.Path.{_≡_, refl, ap, sym, subst, _∙_}
-use mathlib.Core.Logic.{_≢_}
+use mathlib.Core.Path.{_≡_, refl, ap, sym, _∙_}
+use mathlib.Core.Logic.{_≢_, by-cases}
 use mathlib.Core.Bool.{Bool, true, false, not}
 use mathlib.Core.List.{List}
 use lib.ListN.{length, getD, replicate, length-replicate}
@@ -16,12 +17,13 @@ use Rattle.rules.specs.Refusals.{_when_, _orElse_, first}
 use Rattle.rules.specs.Numbers.{part}
 use Rattle.rules.specs.Pile.{Side, draw, tip, Pile, openingLawful, talliesLawful, lawful, pileAnswer}
 use Rattle.rules.specs.Layout.{deskLimit, column, bodyLength, bodyView, bodyBytes}
-use Rattle.rules.specs.Record.{recordCell, recordView, recordAnswer, rowPlaces, unusedShares, unusedPlaces}
+use Rattle.rules.specs.Record.{Record, recordCell, recordView, recordAnswer, rowPlaces, unusedShares, unusedPlaces}
 use Rattle.rules.proofs.Loops.Logic.{and-left, and-right}
 use Rattle.rules.proofs.Loops.Refusals.{when-not-done, orElse-passes, orElse-first, orElse-rest, when-accepted}
 use Rattle.rules.proofs.Loops.Sets.{part-sets}
-use Rattle.rules.proofs.Pile.Agree.{answer-cong}
-use Rattle.rules.proofs.File.Body.{Fits, column-below, length-body, read-body}
+use Rattle.rules.proofs.Pile.Agree.{Agree, answer-cong}
+use Rattle.rules.proofs.File.Body.{Fits, lawful-fits, column-below, length-body, read-body}
+use Rattle.rules.proofs.Record.Facts.{RecordFacts, record-facts}
 use Rattle.audit.specs.Audits.{bodiesAnswer}
 use Rattle.audit.proofs.Audits.{shape-fits}
 use Rattle.audit.proofs.DeskRights.{square-small}
@@ -93,6 +95,33 @@ module _ (l : List ℕ) where
   pub shape-refused : {m : ℕ} → m ≡ packAnswer l 0 648 → m ≢ 0 → m ≡ listAnswer l
   shape-refused = shape _ _ refl refl
 
+-- the bytes of the body that a list packs to
+packed-bytes : (l : List ℕ) → getD l 0 0 ≤ 8 → {body : List ℕ} → body ≡ afterPack l 0 (replicate 648 0) → packAnswer l 0 648 ≡ 0
+    → part 0 (bodyLength (getD l 0 0)) body ≡ bodyBytes (getD l 0 0) (recordView (numbersRecord l))
+unfolding afterPack bodyLength
+packed-bytes l few packed done =
+    let n = getD l 0 0 in
+    let P = recordView (numbersRecord l) in
+    rw (packed ∙ when-accepted _ _ _ done, ← length-body n P)
+    (part-sets (replicate 648 0) 0 (bodyBytes n P) (omega (arith, length-body n P, square-small few, length-replicate {A = ℕ} 648 0)))
+
+-- a list whose record is lawful has, packed, a body of the same numbers
+module _ (l : List ℕ) (passes : listAnswer l ≡ 0) where
+  abbrev R : Record
+  R = numbersRecord l
+
+  list-facts : RecordFacts R
+  unfolding listAnswer
+  list-facts = record-facts R (orElse-rest _ _ passes)
+
+  list-packs : packAnswer l 0 648 ≡ 0
+  list-packs = by-cases (ℕ-discrete (packAnswer l 0 648) 0) (λ z. z) (λ d. shape-refused l refl d ∙ passes)
+
+  pub packed-agrees : {body : List ℕ} → body ≡ afterPack l 0 (replicate 648 0) → Agree (getD l 0 0) (bodyView (getD l 0 0) body 0) (recordView R)
+  unfolding numbersRecord
+  packed-agrees {body} packed =
+      read-body (getD l 0 0) (recordView R) (lawful-fits _ _ (list-facts .pile)) body 0 (packed-bytes l (list-facts .desks-most) packed list-packs)
+
 module _ (l : List ℕ) (small : (k : ℕ) → getD l k 0 < 4294967296) (sized : length l ≡ recordLength) (some : 1 ≤ getD l 0 0) (few : getD l 0 0 ≤ 8) where
   abbrev n : ℕ
   n = getD l 0 0
@@ -121,10 +150,7 @@ module _ (l : List ℕ) (small : (k : ℕ) → getD l k 0 < 4294967296) (sized :
   module _ {body : List ℕ} {size m : ℕ} (packed : body ≡ afterPack l 0 (replicate 648 0)) (done : packAnswer l 0 648 ≡ 0) (is : size ≡ bodyLength n)
       (judged : m ≡ bodiesAnswer n 1 0 (part 0 size body)) where
     written : part 0 size body ≡ bodyBytes n P
-    unfolding afterPack bodyLength
-    written =
-        rw (packed ∙ when-accepted _ _ _ done, is, ← length-body n P)
-        (part-sets (replicate 648 0) 0 (bodyBytes n P) (omega (arith, length-body n P, square-small few, length-replicate {A = ℕ} 648 0)))
+    written = rw is (packed-bytes l few packed done)
 
     at-start : part (0 + 0 * bodyLength n) (bodyLength n) (part 0 size body) ≡ bodyBytes n P
     at-start =

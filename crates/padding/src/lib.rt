@@ -32,7 +32,7 @@ pub const TALLIES_AT: usize = OPENING_AT + ROW;
 pub const RECORD: usize = TALLIES_AT + PLACES * ROW;
 
 // The bytes of a body of 8 desks.
-const BODY: usize = 648;
+pub const BODY: usize = 648;
 
 // Fills a list with the record of the body of n desks at a position; refused with 2 for n, 3 where no body is there, or 8 where the list is shorter than a
 // record. Numbers past the record stay.

@@ -1,10 +1,7 @@
 pub mod Arrays
-pub mod Credits
-pub mod Checked
-pub mod Unused
-pub mod Verdict
 pub mod Sides
 pub mod ActLines
 pub mod Audits
 pub mod Replies
 pub mod RecordNumbers
+pub mod Packed

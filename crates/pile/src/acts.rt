@@ -1,4 +1,4 @@
-// The acts on a record. Tip and draw spend rights of a side, the two gives give them: the side is a parameter, 0 for draw and 1 for tip.
+// The acts on a record. Tip and draw spend rights of a side, the two gives give them: the side is a parameter, 0 for draw, any other for tip.
 use crate::Outcome;
 use crate::PLACES;
 use crate::Pile;

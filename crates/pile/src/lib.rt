@@ -1,18 +1,16 @@
 // A stockpile's record in memory, by value: its constructor, its check, rights, tonnage and the four acts.
-mod account;
 mod acts;
 mod check;
 pub mod lines;
 mod lists;
-mod parts;
 mod queries;
 
 use acts::give_side;
 use acts::spend_side;
-use check::audit_of;
 use lists::numbers_of;
 use lists::record_of;
 use padding::RECORD;
+use padding::check_record;
 use padding::pad;
 use queries::holdings_of;
 use queries::rights_of;
@@ -130,8 +128,7 @@ impl Pile {
     pub fn check(self) -> u8
         ensures { λ r. ⌜ r ≡ recordAnswer (asRecord self) ⌝ }
     {
-        let audit = audit_of(self);
-        audit.answer
+        check_record(&numbers_of(self))
     }
 
     // A desk's draw rights; refused with 2, 5, 6, 7 or 11.
