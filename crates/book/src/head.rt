@@ -1,8 +1,8 @@
 // The head and the contents of a book.
 use crate::layout::ENTRY;
 use crate::layout::HEAD;
-use crate::layout::POSITION;
-use crate::layout::body_at;
+use crate::layout::body_length;
+use crate::layout::front_length;
 use crate::layout::sizes_in_range;
 use number::get2;
 use number::get4;
@@ -37,17 +37,22 @@ pub(crate) fn contents_sound(book: &[u8], n: usize, p: usize) -> bool
     requires { ⌜ (n ≤ 8) × FrontWithin p (now book) ⌝ }
     ensures { λ r. ⌜ r ≡ rising p (pileNumber (now (book .entry))) and every p (λ k. eqb (position (now (book .entry)) k) (bodyAt n p k)) ⌝ }
 {
+    let size = body_length(n);
+    let mut expected = front_length(p);
     let mut last: u16 = 0;
     let mut k = 0;
     while k < p {
-        let number = get2(book, HEAD + k * ENTRY);
+        let at = HEAD + k * ENTRY;
+        let entry = &book[at..at + ENTRY];
+        let number = get2(entry, 0);
         if number <= last {
             return false;
         }
-        if get4(book, POSITION + k * ENTRY) as usize != body_at(n, p, k) {
+        if get4(entry, 2) as usize != expected {
             return false;
         }
         last = number;
+        expected += size;
         k += 1;
     }
     true
@@ -60,7 +65,8 @@ pub(crate) fn place_of(book: &[u8], p: usize, number: u16) -> usize
 {
     let mut k = 0;
     while k < p {
-        if get2(book, HEAD + k * ENTRY) == number {
+        let at = HEAD + k * ENTRY;
+        if get2(&book[at..at + 2], 0) == number {
             return k;
         }
         k += 1;

@@ -86,8 +86,8 @@ loop-again c =
     let turn = x .before .before in
     let rows = start (turn .before .before .before .before) .args in
     let loop = turn .before .loop in
-    let x-is = number-read (rows .mine .now) (loop .c * 4) (x .get4 .ensures) in
-    let y-is = number-read (rows .copy .now) (loop .c * 4) (y .get42 .ensures) in (
+    let x-is = number-read 4 (rows .mine .now) (loop .c * 4) (x .get4 .ensures) in
+    let y-is = number-read 4 (rows .copy .now) (loop .c * 4) (y .get42 .ensures) in (
       search needs,
       ⊎-elim (λ w. w .1 ∙ sym (at-least-fails _ _ _ x-is y-is (w .0 .taken)))
           (λ w. w .1 ∙ loop .inv .1 ∙ sym (at-least-stays _ _ _ x-is y-is (w .0 .left))) (c .before .if3 .came),

@@ -44,11 +44,9 @@ number-part w b at m k l =
     number-cong w (part at m b) b k (at + k) (λ j j<w.
     getD-take m (drop at b) (k + j) 0 (omega arith) ∙ getD-drop at b (k + j) 0 ∙ ap (λ (n : ℕ). getD b n 0) (omega arith))
 
--- of a part of four bytes
-pub number-read : (b : List ℕ) (at : ℕ) {x : ℕ} → x ≡ number 4 (part at (at + 4 - at) b) 0 → x ≡ number 4 b at
-number-read b at e =
-    let size : at + 4 - at ≡ 4 = omega arith in
-    rw size at e ∙ number-part 4 b at 4 0 (omega arith) ∙ ap (number 4 b) (add-zero at)
+-- of the part of its own bytes
+pub number-read : (w : ℕ) (b : List ℕ) (at : ℕ) {x : ℕ} → x ≡ number w (part at (at + w - at) b) 0 → x ≡ number w b at
+number-read w b at e = e ∙ number-part w b at (at + w - at) 0 (omega arith) ∙ ap (number w b) (add-zero at)
 
 pub number-append : (w : ℕ) (a b : List ℕ) (k : ℕ) → number w (a ++ b) (length a + k) ≡ number w b k
 number-append w a b k =

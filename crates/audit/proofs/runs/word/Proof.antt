@@ -30,7 +30,7 @@ cast-result c = search needs
 
 returns : tie.Need-returns
 returns c =
-    let a = c .before .before .before .args in (number-read (a .bytes .now) (a .at) (c .get4 .ensures), search needs)
+    let a = c .before .before .before .args in (number-read 4 (a .bytes .now) (a .at) (c .get4 .ensures), search needs)
 
 pub word-spec : {M : Type 1} → statement M
 word-spec =

@@ -67,7 +67,7 @@ loop-again c =
     let at = c .before .before .before .before .before in
     let loop = at .loop in
     let a = at .before .before .before .args in
-    let read = number-read (a .book .now) (a .at + loop .k * 4) (c .before .get4 .ensures) in (
+    let read = number-read 4 (a .book .now) (a .at + loop .k * 4) (c .before .get4 .ensures) in (
       search needs,
       ⊎-elim (λ w. w .1 ∙ sym (every-stops _ _ (loop .k) (omega arith) (ne-eqb _ _ (λ e. w .0 .taken (e ∙ sym read)))))
           (λ w. w .1 ∙ loop .inv .1 ∙ sym (every-more _ _ (eq-eqb _ _ (w .0 .left ∙ read)))) (c .if1 .came),

@@ -1,10 +1,11 @@
--- `desks_answer` judges one desk's rows after the other and marks each; it stops at the first that are refused.
+-- `desks_answer` judges one desk's rows after the other and marks those that are later in the copy; it stops at the first that are refused.
 -- Assumes nothing.
 use Prim.Native.Nat.{ℕ, _+_, _-_, _*_}
 use native.Mathlib.Omega.{arith}
-use mathlib.Core.Path.{_≡_, refl}
+use mathlib.Core.Path.{_≡_, refl, sym, _∙_}
+use mathlib.Core.Logic.{⊎-elim}
 use mathlib.Core.List.{List}
-use lib.ListN.{length}
+use lib.ListN.{length, length-set}
 use lib.Dec.{eqb}
 use borrow.Author.Needs.{needs}
 use Rattle.rules.specs.Layout.{rowLength}
@@ -12,7 +13,7 @@ use Rattle.rules.specs.Take.{rowAnswer}
 use Rattle.book.proofs.Passed.{Passed, none-asked, next-passed, refused-first, all-passed}
 use Rattle.desk.specs.Both.{InBoth}
 use Rattle.desk.specs.Marks.{comparedAt, Marked}
-use Rattle.desk.proofs.Marking.{row-in-both, next-marked}
+use Rattle.desk.proofs.Marking.{row-in-both, next-marked, next-unmarked}
 use Rattle.desk.proofs.judge.desks_answer.Statement.{statement}
 use Rattle.desk.proofs.judge.desks_answer.Tie as tie
 
@@ -82,17 +83,31 @@ add-i c = search needs
 loop-less : tie.Need-loop-less Inv-loop μ-loop
 loop-less c = search needs
 
+-- what a row's mark is: set where the copy's is later, and otherwise left unset
+marked : (c : tie.Joined2 Inv-loop μ-loop) → let at = c .before .before .before .before in let a = start at .args in
+    Marked (a .front) (rowLength (a .n)) (a .from + at .loop .i + 1) (a .own .now) (a .copy .now) (c .if2 .marks) × (length (c .if2 .marks) ≡ length (a .marks .now))
+unfolding rowLength
+marked c =
+    let judged = c .before .before in
+    let at = judged .before .before in
+    let inv = at .loop .inv in
+    ⊎-elim
+    (λ w. (rw (w .1) (next-marked (inv .1) (omega (arith, start at .pre .room, inv .2)) (sym (w .0 .taken) ∙ judged .judge-row .ensures .1)), rw (w .1, length-set) (inv .2)))
+    (λ w. (rw (w .1) (next-unmarked (inv .1) (sym (judged .judge-row .ensures .1) ∙ w .0 .left)), rw (w .1) (inv .2)))
+    (c .if2 .came)
+
 loop-again : tie.Need-loop-again Inv-loop μ-loop
 unfolding rowLength
 loop-again c =
-    let now = c .before .before in
+    let judged = c .before .before in
+    let now = judged .before in
     let at = now .before in
     let from = start at .args .from in
     let i = at .loop .i in
     let next : from + (i + 1) ≡ from + i + 1 = omega arith in (
-      next-passed (at .loop .inv .0) (now .loop-test .taken) (c .before .judge-row .ensures .0) (c .if1 .left),
-      rw next (next-marked (at .loop .inv .1) (omega (arith, start at .pre .room)) (c .before .judge-row .ensures .1)),
-      search needs,
+      next-passed (at .loop .inv .0) (now .loop-test .taken) (judged .judge-row .ensures .0) (c .before .if1 .left),
+      rw next (marked c .0),
+      marked c .1,
     )
 
 same-length-2 : tie.Need-same-length-2 Inv-loop μ-loop

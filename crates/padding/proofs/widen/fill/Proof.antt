@@ -62,7 +62,7 @@ loop-again c =
     let at : tie.At-loop Inv-loop μ-loop = c .before .before .before in
     let a = at .before .before .before .args in
     let from : ℕ = a .from + at .loop .k * 4 in
-    rw (number-read (a .bytes .now) from (c .get4 .ensures)) (next-number (at .loop .inv) (c .before .before .loop-test .taken))
+    rw (number-read 4 (a .bytes .now) from (c .get4 .ensures)) (next-number (at .loop .inv) (c .before .before .loop-test .taken))
 
 same-length : tie.Need-same-length Inv-loop μ-loop
 same-length c = search needs
