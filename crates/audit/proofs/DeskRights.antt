@@ -13,12 +13,12 @@ use borrow.Author.Tests.{le-leb, lt-leb, leb-true, lt-ltb, le-ltb}
 use Rattle.rules.specs.Loops.{_and_, sum}
 use Rattle.rules.specs.Numbers.{number}
 use Rattle.rules.specs.Pile.{Side, draw, tip, other, Pile, rights, credit, debit, tonnage}
-use Rattle.rules.specs.Layout.{deskLimit, bodyLength, earnedColumn, bodyView}
+use Rattle.rules.specs.Layout.{deskLimit, bodyLength, bodyView}
 use Rattle.rules.proofs.Loops.Logic.{same, and-left, and-right, and-left-holds, and-left-fails, and-right-fails}
 use Rattle.rules.proofs.Loops.Sums.{sum-cong}
 use Rattle.audit.specs.Account.{BodyIn, Strided, sideOf}
 use Rattle.audit.specs.Audits.{bodyThere, rightsIn, tonnageIn}
-use Rattle.audit.proofs.Places.{sideAt, give-at, share-at, earned-at, row-within}
+use Rattle.audit.proofs.Places.{sideAt, give-at, share-at, row-within}
 
 -- a body's length is small
 pub square-small : {n : ℕ} → n ≤ deskLimit → (n + 1) * (n + 1) ≤ 81
@@ -58,7 +58,8 @@ side-most n zero l = omega arith
 side-most n (suc zero) l = omega arith
 side-most n (suc (suc k)) l = absurd (omega arith)
 
-next-row : (k r : ℕ) → (k + 1) * r ≡ k * r + r
+-- from a row to the next
+pub next-row : (k r : ℕ) → (k + 1) * r ≡ k * r + r
 next-row k r = add-mul k 1 r ∙ ap (λ (x : ℕ). k * r + x) (one-mul r)
 
 -- numbers of one column, and of one row, lie within the bytes
@@ -83,10 +84,6 @@ module _ (n at : ℕ) (b : List ℕ) (s : Side) {x from : ℕ} where
       → x ≡ sum n (λ j. bodyView n b at .give s i j)
   given-sum i e place = e ∙ sum-cong n (λ j l. give-at n b at s i j refl (omega arith))
 
-  pub earned-sum : x ≡ sum n (λ k. number 4 b (from + k * (8 * (n + 1)))) → from ≡ at + 8 * (n + 1) + 4 * earnedColumn s
-      → x ≡ sum n (bodyView n b at .earned s)
-  earned-sum e place = e ∙ sum-cong n (λ j l. earned-at n b at s j refl (omega (arith, next-row j (8 * (n + 1)))))
-
   pub share-sum : x ≡ sum n (λ k. number 4 b (from + k * 4)) → from ≡ at + 8 + sideAt n s → x ≡ sum n (bodyView n b at .share s)
   share-sum e place = e ∙ sum-cong n (λ j l. share-at n b at s j refl (omega arith))
 
@@ -97,10 +94,10 @@ module _ (n : ℕ) (p : Pile) where
   unfolding rights credit debit
   rights-of s i a b c d e = ap₂ _-_ (ap₂ _+_ (ap₂ _+_ a b) c) (ap₂ _+_ d e)
 
-  pub tonnage-of : {floor shares tipped drawn : ℕ} → floor ≡ p .floor → shares ≡ sum n (p .share draw) → tipped ≡ sum n (p .earned draw)
-      → drawn ≡ sum n (p .earned tip) → floor + shares + tipped - drawn ≡ tonnage n p
+  pub tonnage-of : {had drawn : ℕ} → had ≡ p .floor + sum n (p .share draw) + sum n (p .earned draw) → drawn ≡ sum n (p .earned tip)
+      → had - drawn ≡ tonnage n p
   unfolding tonnage
-  tonnage-of a b c d = ap₂ _-_ (ap₂ _+_ (ap₂ _+_ a b) c) d
+  tonnage-of a b = ap₂ _-_ a b
 
 -- the answers, where there is no such body or desk, and where there is
 module _ (s : Side) (n at : ℕ) (b : List ℕ) (i : ℕ) where

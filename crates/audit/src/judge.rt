@@ -1,5 +1,6 @@
 // The lines of the table for one body, from its account.
-use crate::runs::TALLY_LIMIT;
+use crate::limits::TALLY_LIMIT;
+use crate::limits::TOP_LIMIT;
 use crate::runs::add_run;
 use crate::runs::word;
 use crate::tallies::read_rows_of;
@@ -12,9 +13,6 @@ ghost use Rattle.rules.specs.Loops.{_and_, sum};
 ghost use Rattle.rules.specs.Pile.{draw, tip, topLimit, credit, lawful, openingLawful, pileAnswer};
 ghost use Rattle.rules.specs.Layout.{bodyView};
 ghost use Rattle.audit.specs.Account.{BodyIn, Passed};
-
-// The most that a top may be.
-const TOP_LIMIT: u64 = 10_000_000;
 
 // floor ≤ top ≤ 10,000,000, and all shares add up to top - floor.
 fn opening_sound(floor: u64, top: u64, shares: u64) -> bool

@@ -1,5 +1,6 @@
 // The account of a pile's rights, on the bytes of its body: what a book's check, its queries and the acts on it go by.
 mod judge;
+pub mod limits;
 mod rights;
 mod runs;
 mod tallies;
@@ -8,7 +9,6 @@ use judge::body_answer;
 use rights::body_there;
 use rights::left_of;
 use rights::less;
-use rights::sum_apart;
 use runs::word;
 ghost use mathlib.Core.Path.{_≡_};
 ghost use Rattle.audit.specs.Account.{sideOf};
@@ -101,10 +101,15 @@ pub fn tonnage_in(bytes: &[u8], at: usize, n: usize) -> u64
         return 0;
     }
     let row = 8 * (n + 1);
-    let tipped = sum_apart(bytes, at + row, row, n);
-    let drawn = sum_apart(bytes, at + row + 4, row, n);
-    less(
-        word(bytes, at) + sum_apart(bytes, at + 8, 4, n) + tipped,
-        drawn,
-    )
+    let mut had = word(bytes, at);
+    let mut drawn: u64 = 0;
+    let mut own = at + row;
+    let mut i = 0;
+    while i < n {
+        had = had + word(bytes, at + 8 + i * 4) + word(bytes, own);
+        drawn = drawn + word(bytes, own + 4);
+        own += row;
+        i += 1;
+    }
+    less(had, drawn)
 }

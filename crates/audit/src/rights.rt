@@ -25,7 +25,7 @@ pub(crate) fn body_there(length: usize, at: usize, n: usize) -> bool
 }
 
 // What numbers come to that stand so many bytes apart.
-pub(crate) fn sum_apart(bytes: &[u8], at: usize, apart: usize, count: usize) -> u64
+fn sum_apart(bytes: &[u8], at: usize, apart: usize, count: usize) -> u64
     requires { ⌜ Strided at apart count (now bytes) ⌝ }
     ensures { λ r. ⌜ (r ≡ sum count (λ k. number 4 (now (bytes .entry)) (at + k * apart))) × (r ≤ 34359738368) ⌝ }
 {

@@ -1,4 +1,5 @@
 // Runs of numbers that stand side by side. Sums are u64, so no bytes, lawful or not, make one wrap.
+use crate::limits::TALLY_LIMIT;
 use number::get4;
 ghost use mathlib.Core.Path.{_≡_};
 ghost use Prim.Native.Nat.{_+_, _*_, _≤_, _<_};
@@ -8,9 +9,6 @@ ghost use Rattle.rules.specs.Loops.{sum, every};
 ghost use Rattle.rules.specs.Numbers.{number};
 ghost use Rattle.rules.specs.Pile.{tallyLimit};
 ghost use Rattle.audit.specs.Account.{RunFits, RunAdded};
-
-// The most that a tally may be.
-pub(crate) const TALLY_LIMIT: u64 = 1_000_000_000;
 
 // The number at a position, which is there, in the width of sums.
 pub(crate) fn word(bytes: &[u8], at: usize) -> u64

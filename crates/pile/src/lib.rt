@@ -7,6 +7,7 @@ mod queries;
 
 use acts::give_side;
 use acts::spend_side;
+use audit::limits;
 use lists::numbers_of;
 use lists::record_of;
 use padding::RECORD;
@@ -67,9 +68,9 @@ pub struct Holdings {
 impl Pile {
     pub const DESKS: u8 = 8;
 
-    pub const TOP_LIMIT: u32 = 10_000_000;
+    pub const TOP_LIMIT: u32 = limits::TOP_LIMIT as u32;
 
-    pub const TALLY_LIMIT: u64 = 1_000_000_000;
+    pub const TALLY_LIMIT: u64 = limits::TALLY_LIMIT;
 
     pub const AMOUNT_LIMIT: u32 = 1_000;
 
