@@ -1,6 +1,6 @@
 -- Fetching into a list of numbers and storing from one: the lines of the tables in their order, and what each leaves.
 -- Assumes nothing.
-use Prim.Native.Nat.{ℕ, zero, suc, _+_, _≤_, _<_}
+use Prim.Native.Nat.{ℕ, zero, suc, _+_, _≤_}
 use native.Mathlib.Decide.{ℕ-discrete}
 use native.Mathlib.Omega.{arith}
 use mathlib.Core.Path.{_≡_, refl, ap, ap₂, sym, _∙_}
@@ -14,7 +14,7 @@ use borrow.Author.Tests.{le-leb, le-ltb, eq-eqb, eqb-true, ne-eqb}
 use Rattle.rules.specs.Loops.{_and_, between}
 use Rattle.rules.specs.Refusals.{_when_, _orElse_, done}
 use Rattle.rules.specs.Pile.{sameOpening}
-use Rattle.rules.specs.Layout.{deskLimit, bodyLength, bodyAt, desks, piles, pileOf}
+use Rattle.rules.specs.Layout.{bodyLength, bodyAt, desks, piles, pileOf}
 use Rattle.rules.specs.Book.{fetchAnswer, place}
 use Rattle.rules.specs.Record.{Record, sharePlaces, tallyPlaces, recordView, recordAnswer, storeAnswer, afterStore}
 use Rattle.rules.proofs.Loops.Logic.{and-both, and-left-fails, and-right-fails}

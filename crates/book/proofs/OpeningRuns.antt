@@ -11,7 +11,7 @@ use borrow.Author.Tests.{eqb-true, eq-eqb}
 use Rattle.rules.specs.Loops.{_and_, every}
 use Rattle.rules.specs.Numbers.{number}
 use Rattle.rules.specs.Pile.{Side, draw, tip, Pile, sameOpening}
-use Rattle.rules.specs.Layout.{rowLength, cellAt, column, bodyView}
+use Rattle.rules.specs.Layout.{cellAt, column, bodyView}
 use Rattle.rules.specs.Record.{recordCell, recordView, rowPlaces}
 use Rattle.rules.proofs.Loops.Logic.{same, and-left, and-right, and-both}
 use Rattle.rules.proofs.Loops.Every.{every-at, every-all}

@@ -1,11 +1,11 @@
 -- What the functions that read and write a book ask of its bytes: that a part lies within them, or that they have a book's size.
 -- Assumes nothing.
-use Prim.Native.Nat.{ℕ, _+_, _*_, _≤_, _<_}
+use Prim.Native.Nat.{ℕ, _+_, _≤_, _<_}
 use mathlib.Core.Path.{_≡_}
 use mathlib.Core.List.{List}
 use lib.ListN.{length}
 use Rattle.rules.specs.Pile.{pileAnswer}
-use Rattle.rules.specs.Layout.{deskLimit, pileLimit, Sizes, frontLength, rowLength, bodyLength, bookLength, bodyView, desks}
+use Rattle.rules.specs.Layout.{deskLimit, pileLimit, Sizes, frontLength, bodyLength, bookLength, bodyView, desks}
 
 -- the head and the contents of p piles
 pub record FrontWithin (p : ℕ) (b : List ℕ) : Type 0 where

@@ -11,7 +11,6 @@ mod readable;
 mod same;
 
 use audit::tonnage_in;
-use find::Found;
 use find::find;
 use front::put_bodies;
 use front::put_front;
@@ -122,7 +121,7 @@ pub fn seek(book: &[u8], desk: u8, number: u16) -> Sought
     ensures answer { λ r. ⌜ r .answer ≡ deskAnswer desk (now (book .entry)) number ⌝ }
     ensures start { λ r. ⌜ r .start ≡ deskStart desk (now (book .entry)) number ⌝ }
 {
-    let found: Found = find(book, desk, number);
+    let found = find(book, desk, number);
     let refusal = found.answer;
     if refusal != 0 {
         return Sought {

@@ -9,11 +9,11 @@ use lib.Seq.{sets}
 use Rattle.rules.specs.Loops.{flat, list}
 use Rattle.rules.specs.Numbers.{encode}
 use Rattle.rules.specs.Layout.{rowOf, bodyRow, bodyBytes}
-use Rattle.rules.specs.Record.{recordCell, recordView, rowPlaces, tipsPlace}
+use Rattle.rules.specs.Record.{recordCell, recordView}
 use Rattle.rules.proofs.Loops.Pieces.{flat-cong, length-list, list-add, list-cong}
 use Rattle.rules.proofs.Loops.Sets.{sets-then}
 use Rattle.rules.proofs.Bytes.Numbers.{encode-append, length-encode}
-use Rattle.padding.specs.Lists.{recordLength, numbersRecord, usedRow}
+use Rattle.padding.specs.Lists.{numbersRecord, usedRow}
 use Rattle.padding.proofs.Cells.{record-cell}
 
 pub length-used-row : (n : ℕ) (l : List ℕ) (r : ℕ) → length (encode (usedRow n l r)) ≡ 8 * (n + 1)

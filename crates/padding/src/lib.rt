@@ -15,9 +15,9 @@ ghost use lib.ListN.{length};
 ghost use Rattle.padding.specs.Lists.{padAnswer, afterPad, packAnswer, afterPack, listAnswer};
 
 // A record has places for 8 desks: 8 for each kind of shares and gives, so a row has 18, and the opening has as many.
-pub(crate) const PLACES: usize = 8;
+pub const PLACES: usize = 8;
 
-pub(crate) const ROW: usize = 2 + 2 * PLACES;
+pub const ROW: usize = 2 + 2 * PLACES;
 
 // Where a row's tip gives start, and the opening's tip shares.
 pub const TIPS: usize = 2 + PLACES;

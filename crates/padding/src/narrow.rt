@@ -5,7 +5,6 @@ use crate::TIPS;
 use number::put4;
 ghost use mathlib.Core.Path.{_≡_};
 ghost use Prim.Native.Nat.{suc, _+_, _*_};
-ghost use mathlib.Core.List.{_++_};
 ghost use lib.ListN.{getD};
 ghost use lib.Seq.{sets};
 ghost use Rattle.rules.specs.Loops.{flat, list};

@@ -25,14 +25,11 @@ ghost use Rattle.pile.specs.View.{asRecord};
 ghost use Rattle.pile.specs.Replies.{asReply};
 
 // A record has places for 8 desks: 8 for each kind of shares and gives, so a row of tallies has 18.
-pub const PLACES: usize = 8;
+pub const PLACES: usize = padding::PLACES;
 
 pub const SHARES: usize = 2 * PLACES;
 
-pub const ROW: usize = 2 + 2 * PLACES;
-
-// Where a row's tip gives start.
-pub const TIPS: usize = 2 + PLACES;
+pub const ROW: usize = padding::ROW;
 
 pub const TALLIES: usize = PLACES * ROW;
 

@@ -2,7 +2,7 @@
 -- Assumes nothing.
 use native.Mathlib.Omega.{arith}
 use mathlib.Core.Path.{sym, _∙_}
-use Rattle.rules.specs.Layout.{bodyLength, desks}
+use Rattle.rules.specs.Layout.{bodyLength}
 use Rattle.rules.specs.Record.{recordAt}
 use Rattle.rules.proofs.Record.AtPosition.{no-body}
 use borrow.Author.Needs.{needs}

@@ -1,14 +1,11 @@
 -- `compare` asks for one length of a row, goes over the places once, and keeps whether each row has been at least the other so far.
 -- Assumes nothing.
-use Prim.Native.Nat.{ℕ, _+_, _-_, _*_, _≤_}
-use native.Mathlib.Nat.{add-zero}
+use Prim.Native.Nat.{_-_, _*_, _≤_}
 use native.Mathlib.Omega.{arith}
-use mathlib.Core.Path.{_≡_, refl, ap, ap₂, sym, _∙_}
+use mathlib.Core.Path.{_≡_, refl, ap₂, sym, _∙_}
 use mathlib.Core.Logic.{⊎-elim}
-use mathlib.Core.List.{List}
 use borrow.Author.Needs.{needs}
 use Rattle.rules.specs.Loops.{every}
-use Rattle.rules.specs.Numbers.{number, part}
 use Rattle.rules.specs.Rows.{atLeast, numbersOf, places, compared}
 use Rattle.rules.proofs.Loops.Logic.{holds, fails}
 use Rattle.rules.proofs.Bytes.Numbers.{number-read}

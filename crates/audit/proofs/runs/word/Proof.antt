@@ -1,10 +1,5 @@
 -- `word` reads the number of the 4 bytes that it takes out.
 -- Assumes nothing.
-use Prim.Native.Nat.{_+_, _-_}
-use native.Mathlib.Nat.{add-zero}
-use native.Mathlib.Omega.{arith}
-use mathlib.Core.Path.{_≡_, ap, _∙_}
-use Rattle.rules.specs.Numbers.{number}
 use Rattle.rules.proofs.Bytes.Numbers.{number-read}
 use borrow.Author.Needs.{needs}
 use Rattle.audit.proofs.runs.word.Statement.{statement}

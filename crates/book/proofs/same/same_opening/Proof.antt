@@ -2,7 +2,6 @@
 -- Assumes nothing.
 use native.Mathlib.Omega.{arith}
 use mathlib.Core.Path.{sym, _∙_}
-use Rattle.rules.specs.Layout.{bodyLength}
 use Rattle.rules.proofs.Loops.Logic.{holds, fails, and-left-fails, and-left-holds}
 use Rattle.book.proofs.Lengths.{row-within}
 use Rattle.book.proofs.OpeningRuns.{same-runs}

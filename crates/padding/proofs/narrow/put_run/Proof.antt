@@ -2,7 +2,7 @@
 -- Assumes nothing.
 use Prim.Native.Nat.{ℕ, _+_, _-_, _*_}
 use native.Mathlib.Omega.{arith}
-use mathlib.Core.Path.{refl, _∙_}
+use mathlib.Core.Path.{refl}
 use lib.ListN.{getD}
 use Rattle.rules.specs.Numbers.{bytes}
 use Rattle.rules.proofs.Bytes.Numbers.{length-bytes, encode-list}

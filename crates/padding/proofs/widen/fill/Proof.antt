@@ -1,9 +1,7 @@
 -- `fill` stores one number after the other, as `sets` does.
 -- Assumes nothing.
 use Prim.Native.Nat.{ℕ, _+_, _-_, _*_}
-use native.Mathlib.Nat.{add-zero}
 use native.Mathlib.Omega.{arith}
-use mathlib.Core.Path.{_≡_, ap, _∙_}
 use mathlib.Core.List.{[], _∷_}
 use Rattle.rules.specs.Numbers.{number}
 use Rattle.rules.proofs.Bytes.Numbers.{number-read}
