@@ -111,7 +111,6 @@ fn desks_answer(
         if answer != 0 {
             return answer;
         }
-        // Only where it is to be true: a list that is stored into one by one and then read several at a time makes the reader wait.
         let later = judged.later;
         if later {
             marks[from + i] = true;
