@@ -1,8 +1,8 @@
 // The lines of the table for one body, from its account.
 use crate::limits::TALLY_LIMIT;
 use crate::limits::TOP_LIMIT;
-use crate::runs::add_run;
 use crate::runs::word;
+use crate::shares::read_shares_of;
 use crate::tallies::read_rows_of;
 use crate::tallies::rows_within;
 ghost use mathlib.Core.Path.{_≡_};
@@ -116,7 +116,7 @@ pub(crate) fn body_answer(
     ensures draws { λ _. ⌜ Passed (bodyView n (now (bytes .entry)) at) draw n n (now (draws .exit)) (now («draw_given» .exit)) ⌝ }
     ensures tips { λ _. ⌜ Passed (bodyView n (now (bytes .entry)) at) tip n n (now (tips .exit)) (now («tip_given» .exit)) ⌝ }
 {
-    let shares = add_run(bytes, at + 8, n, draws) + add_run(bytes, at + 8 + 4 * n, n, tips);
+    let shares = read_shares_of(bytes, at, n, draws, tips);
     let own = read_rows_of(bytes, at, n, draws, draw_given, tips, tip_given);
     let balance = balance_of(bytes, at, n, draws, draw_given, tips, tip_given);
     let opening = opening_sound(word(bytes, at), word(bytes, at + 4), shares);

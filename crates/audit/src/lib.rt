@@ -3,6 +3,7 @@ mod judge;
 pub mod limits;
 mod rights;
 mod runs;
+mod shares;
 mod tallies;
 
 use judge::body_answer;

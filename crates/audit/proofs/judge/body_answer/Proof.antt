@@ -10,8 +10,7 @@ use Rattle.rules.specs.Numbers.{number}
 use Rattle.rules.specs.Pile.{Pile, draw, tip, topLimit, openingLawful}
 use Rattle.rules.specs.Layout.{bodyView, cellAt}
 use Rattle.audit.proofs.Places.{opening-within}
-use Rattle.audit.proofs.Passing.{opened, empty-fits}
-use Rattle.audit.proofs.DeskRights.{share-sum}
+use Rattle.audit.proofs.Passing.{opened}
 use borrow.Author.Needs.{needs}
 use Rattle.audit.proofs.judge.body_answer.Statement.{statement}
 use Rattle.audit.proofs.judge.body_answer.Tie as tie
@@ -20,17 +19,12 @@ use Rattle.audit.proofs.judge.body_answer.Tie as tie
 abbrev start : tie.After-slice-known4 → tie.Start
 start c = c .before .before .before .before .before
 
-abbrev draws-in : tie.After-slice-known5 → tie.After-add-run
-draws-in c = c .before .before
-
-abbrev tips-in : tie.After-slice-known6 → tie.After-add-run2
-tips-in c = c .before .before
-
-abbrev opening : tie.After-slice-known6 → tie.After-slice-known5
-opening c = tips-in c .before .before
-
 abbrev at-first : tie.After-slice-known6 → tie.Start
-at-first c = start (draws-in (opening c) .before .before)
+at-first c = start (c .before .before .before .before .before .before .before)
+
+-- the shares, as they were read
+abbrev read : tie.After-slice-known6 → tie.After-read-shares-of
+read c = c .before .before .before .before
 
 abbrev rows : tie.After-slice-known10 → tie.After-read-rows-of
 rows c = c .before .before .before .before .before .before .before .before
@@ -62,32 +56,13 @@ opening-is c =
     let shares = shares-in (all-in (balanced c)) in
     let floor : c .before .before .word .result ≡ pile (entry c) .floor = c .before .before .word .ensures .0 ∙ ap (number 4 (a .bytes .now)) (omega arith) in
     let top : c .before .word2 .result ≡ pile (entry c) .top = c .before .word2 .ensures .0 ∙ ap (number 4 (a .bytes .now)) (omega arith) in
-    let d = share-sum (a .n) (a .at) (a .bytes .now) draw (draws-in (opening shares) .add-run .ensures .0 .0) (omega arith) in
-    let t = share-sum (a .n) (a .at) (a .bytes .now) tip (tips-in shares .add-run2 .ensures .0 .0) (omega arith) in
     c .opening-sound .ensures
-    ∙ ap₂ (λ (x y : ℕ). leb x y and leb y topLimit and eqb (draws-in (opening shares) .add-run .result + tips-in shares .add-run2 .result) (y - x)) floor top
-    ∙ ap₂ (λ (x y : ℕ). leb (pile (entry c) .floor) (pile (entry c) .top) and leb (pile (entry c) .top) topLimit and eqb (x + y) (pile (entry c) .top - pile (entry c) .floor)) d t
+    ∙ ap₂ (λ (x y : ℕ). leb x y and leb y topLimit and eqb (read shares .read-shares-of .result) (y - x)) floor top
+    ∙ ap (λ (x : ℕ). leb (pile (entry c) .floor) (pile (entry c) .top) and leb (pile (entry c) .top) topLimit and eqb x (pile (entry c) .top - pile (entry c) .floor))
+    (read shares .read-shares-of .ensures .0)
 
-add-add-run : tie.Need-add-add-run
-add-add-run c = search (needs, within (start c))
-
-add-run-requires : tie.Need-add-run-requires
-add-run-requires c κs = let f = start (c .before) in empty-fits (f .pre .1 .0 .0) (f .pre .0 .desks-most) (omega (arith, within f))
-
-add-add-run-2 : tie.Need-add-add-run-2
-add-add-run-2 c = search (needs, within (start (draws-in c .before .before)))
-
-mul-add-run : tie.Need-mul-add-run
-mul-add-run c = search needs
-
-add-add-run-3 : tie.Need-add-add-run-3
-add-add-run-3 c = search (needs, within (start (draws-in c .before .before)))
-
-add-run-requires-2 : tie.Need-add-run-requires-2
-add-run-requires-2 c κs = let f = start (draws-in (c .before) .before .before) in empty-fits (f .pre .1 .1 .0) (f .pre .0 .desks-most) (omega (arith, within f))
-
-add-shares : tie.Need-add-shares
-add-shares c = omega (arith, draws-in (opening c) .add-run .ensures .0 .1, tips-in c .add-run2 .ensures .0 .1)
+read-shares-of-requires : tie.Need-read-shares-of-requires
+read-shares-of-requires c κs = let f = start (c .before .before) in (f .pre .0, (f .pre .1 .0 .0, f .pre .1 .1 .0))
 
 read-rows-of-requires : tie.Need-read-rows-of-requires
 read-rows-of-requires c κs =
@@ -96,8 +71,8 @@ read-rows-of-requires c κs =
     let a = f .args in (
       f .pre .0,
       (
-        opened (a .n) (a .at) (a .bytes .now) draw (f .pre .1 .0 .0) (f .pre .1 .0 .1) (omega arith) (draws-in (opening shares) .add-run .ensures .1) (f .pre .0 .desks-most),
-        opened (a .n) (a .at) (a .bytes .now) tip (f .pre .1 .1 .0) (f .pre .1 .1 .1) (omega arith) (tips-in shares .add-run2 .ensures .1) (f .pre .0 .desks-most),
+        opened (a .n) (a .at) (a .bytes .now) draw (f .pre .1 .0 .0) (f .pre .1 .0 .1) (omega arith) (read shares .read-shares-of .ensures .1 .0) (f .pre .0 .desks-most),
+        opened (a .n) (a .at) (a .bytes .now) tip (f .pre .1 .1 .0) (f .pre .1 .1 .1) (omega arith) (read shares .read-shares-of .ensures .1 .1) (f .pre .0 .desks-most),
       ),
     )
 
@@ -111,7 +86,7 @@ word-requires c κs = search (needs, within (at-first (shares-in (all-in c))))
 add-word : tie.Need-add-word
 add-word c =
     let shares = shares-in (all-in (c .before)) in
-    let known = draws-in (opening shares) .before .before .before .before .before .before in search (needs, within (at-first shares), known .shared-slice-known .given)
+    let known = read shares .before .before .before .before .before .before .before in search (needs, within (at-first shares), known .shared-slice-known .given)
 
 word-requires-2 : tie.Need-word-requires-2
 word-requires-2 c κs = search (needs, within (at-first (shares-in (all-in (c .before)))))
@@ -143,13 +118,7 @@ pub body-answer-spec : {M : Type 1} → statement M
 body-answer-spec =
     tie.close
     (tie.spec
-    add-add-run
-    add-run-requires
-    add-add-run-2
-    mul-add-run
-    add-add-run-3
-    add-run-requires-2
-    add-shares
+    read-shares-of-requires
     read-rows-of-requires
     balance-of-requires
     word-requires
