@@ -1,7 +1,9 @@
--- A book's bytes. Body, BodySize and Written: what was written is read again. Readable: a book passes its check exactly when. LawfulBook: lawful piles make one.
+-- A book's bytes. Body, BodySize, Positions, Front and Written: what was written is read again. Readable: a book passes its check exactly when. LawfulBook: lawful piles make one.
 -- Then what opens a book, what lists its contents, what finds a pile in it, and what changes it: one number (Cells, PutCell, AfterAct) or one body (PutBody). Refused: nothing.
 pub mod Body
 pub mod BodySize
+pub mod Positions
+pub mod Front
 pub mod Written
 pub mod Readable
 pub mod Rising

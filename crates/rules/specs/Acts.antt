@@ -1,11 +1,11 @@
 -- The four acts: tip, draw, give draw rights, give tip rights.
 -- Assumes nothing.
 use Prim.Native.Nat.{ℕ, _+_}
-use mathlib.Core.Bool.{Bool, true, false, cond, not}
+use mathlib.Core.Bool.{Bool, false, not}
 use lib.Dec.{ltb, eqb}
-use Rattle.rules.specs.Loops.{_and_, _or_}
+use Rattle.rules.specs.Loops.{_or_}
 use Rattle.rules.specs.Refusals.{_when_, _orElse_}
-use Rattle.rules.specs.Pile.{Side, draw, tip, other, Pile, rights, tallyLimit, amountLimit}
+use Rattle.rules.specs.Pile.{Side, other, Pile, rights, tallyLimit, amountLimit}
 
 -- Tipping spends tip rights and drawing spends draw rights; a give moves rights of a side to a receiver (Figure 1's transfer).
 pub data Kind : Type 0 where
@@ -40,28 +40,3 @@ actRefusal n p i kind t =
     orElse 13 when (eqb t 0 or ltb amountLimit t)
     orElse 14 when ltb (rights n p (side kind) i) t
     orElse 15 when ltb tallyLimit (tally p i kind + t)
-
-abbrev pub sameSide : Side → Side → Bool
-sameSide draw draw = true
-sameSide draw tip = false
-sameSide tip draw = false
-sameSide tip tip = true
-
--- the pile after an act of desk i: t more in that one tally
-unfoldable pub acted : Pile → ℕ → Kind → ℕ → Pile
-acted p i (spend s) t =
-    record {
-      floor = p .floor;
-      top = p .top;
-      share = p .share;
-      earned = λ s′ k. cond (sameSide s′ (other s) and eqb k i) (p .earned s′ k + t) (p .earned s′ k);
-      give = p .give;
-    }
-acted p i (give s j) t =
-    record {
-      floor = p .floor;
-      top = p .top;
-      share = p .share;
-      earned = p .earned;
-      give = λ s′ k l. cond (sameSide s′ s and (eqb k i and eqb l j)) (p .give s′ k l + t) (p .give s′ k l);
-    }

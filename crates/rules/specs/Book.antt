@@ -12,7 +12,7 @@ use Rattle.rules.specs.Refusals.{_when_, _orElse_, first, done, Reply, r
 use Rattle.rules.specs.Numbers.{bytes, part}
 use Rattle.rules.specs.Pile.{Side, pileAnswer, rights, tonnage}
 use Rattle.rules.specs.Acts.{Act, tally, actRefusal}
-use Rattle.rules.specs.Layout.{bodyLength, bodyAt, bookLength, cellAt, actColumn, desks, piles, pileNumber, position, pileOf, sizesInRange}
+use Rattle.rules.specs.Layout.{headOf, bodyLength, bodyAt, bookLength, cellAt, actColumn, desks, piles, pileNumber, position, pileOf, sizesInRange}
 use Rattle.rules.specs.Opening.{rising}
 
 -- version 1, n, p, 0
@@ -22,14 +22,14 @@ headSound b =
 
 unfoldable pub contentsSound : List ℕ → Bool
 contentsSound b =
-    rising (piles b) (pileNumber b) and every (piles b) (λ k. eqb (position b k) (bodyAt (desks b) (piles b) k))
+    rising (piles b) (pileNumber b) and every (piles b) (λ k. eqb (position b k) (bodyAt (headOf b) k))
 
 -- "Book bytes", then "Each body, in file order"
 unfoldable pub bookAnswer : List ℕ → ℕ
 bookAnswer b =
     1 when ltb (length b) 4
     orElse 2 when not (headSound b)
-    orElse 3 when not (eqb (length b) (bookLength (desks b) (piles b)))
+    orElse 3 when not (eqb (length b) (bookLength (headOf b)))
     orElse 4 when not (contentsSound b)
     orElse first (piles b) (λ k. pileAnswer (desks b) (pileOf b k))
 
@@ -77,7 +77,7 @@ actAnswer i a b =
 
 unfoldable pub tallyAt : ℕ → Act → List ℕ → ℕ
 tallyAt i a b =
-    bodyAt (desks b) (piles b) (place b (a .pile)) + cellAt (desks b) (suc i) (actColumn (desks b) (a .kind))
+    bodyAt (headOf b) (place b (a .pile)) + cellAt (desks b) (suc i) (actColumn (desks b) (a .kind))
 
 unfoldable pub afterAct : ℕ → Act → List ℕ → List ℕ
 afterAct i a b =

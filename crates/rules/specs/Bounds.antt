@@ -3,13 +3,11 @@
 -- Assumes nothing.
 use Prim.Native.Nat.{ℕ, _+_, _-_}
 use mathlib.Core.List.{List}
-use lib.ListN.{replicate}
-use Rattle.rules.specs.Loops.{list}
-use Rattle.rules.specs.Refusals.{done, Reply, reply}
+use Rattle.rules.specs.Refusals.{Reply, reply}
 use Rattle.rules.specs.Pile.{Side, draw, tip, Pile, rights}
-use Rattle.rules.specs.Layout.{deskLimit, desks, pileOf}
+use Rattle.rules.specs.Layout.{desks, pileOf}
 use Rattle.rules.specs.Book.{place, deskAnswer}
-use Rattle.rules.specs.Record.{Record, recordView, recordAnswer, padded, recordDeskAnswer}
+use Rattle.rules.specs.Record.{Record, recordView, recordDeskAnswer}
 
 -- floor + its draw rights
 unfoldable pub least : ℕ → Pile → ℕ → ℕ
@@ -30,7 +28,3 @@ boundReply s i b number = reply (deskAnswer i b number) (bound (desks b) (pileOf
 
 unfoldable pub recordBoundReply : Side → ℕ → Record → Reply
 recordBoundReply s i r = reply (recordDeskAnswer i r) (bound (r .n) (recordView r) s i)
-
--- the bounds of a side of all desks at once, 0 past n; all 0 where the record is refused
-unfoldable pub recordBounds : Side → Record → List ℕ
-recordBounds s r = done (recordAnswer r) (list deskLimit (padded (r .n) (bound (r .n) (recordView r) s))) (replicate deskLimit 0)

@@ -39,22 +39,41 @@ rowLength n = 8 * (n + 1)
 unfoldable pub bodyLength : ℕ → ℕ
 bodyLength n = 8 * ((n + 1) * (n + 1))
 
--- The front of a book of p piles: a head of 4 bytes, and for each pile an entry of 6, its number in 2 and its position in 4.
+-- The head of a book: it decides where everything else stands. That of a list of bytes; and that of a book of n desks and p piles as it is written, version 1.
+pub record Head : Type 0 where
+  pub version : ℕ
+  pub desks : ℕ
+  pub piles : ℕ
+
+abbrev pub headOf : List ℕ → Head
+headOf b = record { version = getD b 0 0; desks = getD b 1 0; piles = getD b 2 0 }
+
+abbrev pub headFor : ℕ → ℕ → Head
+headFor n p = record { version = 1; desks = n; piles = p }
+
+abbrev pub desks : List ℕ → ℕ
+desks b = headOf b .desks
+
+abbrev pub piles : List ℕ → ℕ
+piles b = headOf b .piles
+
+-- The front of a book: a head of 4 bytes, and for each pile an entry of 6, its number in 2 and its position in 4.
 abbrev pub entryAt : ℕ → ℕ
 entryAt k = 4 + k * 6
 
 abbrev pub positionAt : ℕ → ℕ
 positionAt k = 6 + k * 6
 
-abbrev pub frontLength : ℕ → ℕ
-frontLength p = 4 + p * 6
+-- How long the front is. Nothing but the few facts of proofs/File/Positions and the code's own function sees what it is made of.
+unfoldable pub frontLength : Head → ℕ
+frontLength h = 4 + h .piles * 6
 
--- where body k of a book of n desks and p piles starts; the book ends where a body p would
-unfoldable pub bodyAt : ℕ → ℕ → ℕ → ℕ
-bodyAt n p k = frontLength p + k * bodyLength n
+-- where body k starts; the book ends where a body p would
+unfoldable pub bodyAt : Head → ℕ → ℕ
+bodyAt h k = frontLength h + k * bodyLength (h .desks)
 
-unfoldable pub bookLength : ℕ → ℕ → ℕ
-bookLength n p = bodyAt n p p
+unfoldable pub bookLength : Head → ℕ
+bookLength h = bodyAt h (h .piles)
 
 -- where a row's column stands in a body
 unfoldable pub cellAt : ℕ → ℕ → ℕ → ℕ
@@ -89,13 +108,7 @@ view w cell =
 abbrev pub bodyView : ℕ → List ℕ → ℕ → Pile
 bodyView n b at = view n (λ row column. number 4 b (at + cellAt n row column))
 
--- the head and the contents of a book
-abbrev pub desks : List ℕ → ℕ
-desks b = getD b 1 0
-
-abbrev pub piles : List ℕ → ℕ
-piles b = getD b 2 0
-
+-- the contents of a book, and the pile at place k
 unfoldable pub pileNumber : List ℕ → ℕ → ℕ
 pileNumber b k = number 2 b (entryAt k)
 
@@ -103,7 +116,7 @@ unfoldable pub position : List ℕ → ℕ → ℕ
 position b k = number 4 b (positionAt k)
 
 unfoldable pub pileOf : List ℕ → ℕ → Pile
-pileOf b k = bodyView (desks b) b (bodyAt (desks b) (piles b) k)
+pileOf b k = bodyView (desks b) b (bodyAt (headOf b) k)
 
 -- A body as its numbers: floor, top, n draw shares, n tip shares, then n rows, each tipped, drawn, draw gives, tip gives.
 unfoldable pub rowOf : ℕ → ℕ → ℕ → (Side → ℕ → ℕ) → List ℕ
@@ -116,10 +129,16 @@ bodyRow n p (suc i) = rowOf n (p .earned draw i) (p .earned tip i) (λ s. p .giv
 unfoldable pub bodyBytes : ℕ → Pile → List ℕ
 bodyBytes n p = flat (suc n) (λ row. encode (bodyRow n p row))
 
--- a book from its desks, its piles, their numbers, and their bodies: version 1, n, p, 0, the contents, the bodies without gaps
-unfoldable pub entryBytes : ℕ → ℕ → (ℕ → ℕ) → ℕ → List ℕ
-entryBytes n p numbers k = bytes 2 (numbers k) ++ bytes 4 (bodyAt n p k)
+-- the front of a book from its head and its pile numbers: version, n, p, 0, then the contents
+unfoldable pub headBytes : Head → List ℕ
+headBytes h = h .version ∷ h .desks ∷ h .piles ∷ 0 ∷ []
 
+unfoldable pub entryBytes : Head → (ℕ → ℕ) → ℕ → List ℕ
+entryBytes h numbers k = bytes 2 (numbers k) ++ bytes 4 (bodyAt h k)
+
+unfoldable pub frontBytes : Head → (ℕ → ℕ) → List ℕ
+frontBytes h numbers = headBytes h ++ flat (h .piles) (entryBytes h numbers)
+
+-- a book from its desks, its piles, their numbers, and their bodies without gaps
 unfoldable pub bookBytes : ℕ → ℕ → (ℕ → ℕ) → (ℕ → Pile) → List ℕ
-bookBytes n p numbers pile =
-    (1 ∷ n ∷ p ∷ 0 ∷ []) ++ (flat p (entryBytes n p numbers) ++ flat p (λ k. bodyBytes n (pile k)))
+bookBytes n p numbers pile = frontBytes (headFor n p) numbers ++ flat p (λ k. bodyBytes n (pile k))

@@ -1,6 +1,6 @@
 -- Numbers in bytes: unsigned, low byte first (little-endian), w bytes wide.
 -- Assumes nothing.
-use Prim.Native.Nat.{ℕ, zero, suc, _+_, _*_, _/_, _%_}
+use Prim.Native.Nat.{ℕ, zero, suc, _+_, _*_, _/_, _%_, _<_}
 use mathlib.Core.List.{List, [], _∷_, _++_}
 use lib.ListN.{length, getD, take, drop}
 use lib.Dec.{ltb}
@@ -21,6 +21,10 @@ bytes (suc w) x = x % 256 ∷ bytes w (x / 256)
 unfoldable pub encode : List ℕ → List ℕ
 encode [] = []
 encode (x ∷ xs) = bytes 4 x ++ encode xs
+
+-- a list of bytes: none is above 255; past its end the default 0 is read
+abbrev pub Octets : List ℕ → Type 0
+Octets b = (k : ℕ) → getD b k 0 < 256
 
 -- a part of a list: so many elements from a position
 abbrev pub part : {A : Type 0} → ℕ → ℕ → List A → List A

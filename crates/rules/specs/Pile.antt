@@ -1,7 +1,7 @@
 -- One stockpile of n desks: its opening, its tallies, and the rights that follow from them ("Rights" of document 01).
 -- It is the Bounded Counter of source document 000 (Figure 1) kept twice: the side `draw` guards the floor, the side `tip` the top.
 -- Assumes nothing.
-use Prim.Native.Nat.{ℕ, zero, suc, _+_, _-_}
+use Prim.Native.Nat.{ℕ, zero, suc, _+_, _-_, _≤_}
 use mathlib.Core.Bool.{Bool, not}
 use lib.Dec.{leb, eqb}
 use Rattle.rules.specs.Loops.{_and_, sum, every}
@@ -58,9 +58,21 @@ rights n p s i = credit n p s i - debit n p s i
 unfoldable pub lawful : ℕ → Pile → Bool
 lawful n p = every n (λ i. bothSides (λ s. leb (debit n p s i) (credit n p s i)))
 
--- document 01's tonnage now, Figure 1's value, by the acts that a book holds: floor + all draw shares + all tipped - all drawn
+-- document 01's tonnage now, Figure 1's value, by the acts that a book holds: what was there at the opening (floor + all draw shares) and all tipped, less
+-- all drawn
+abbrev pub hadAndTipped : ℕ → Pile → ℕ
+hadAndTipped n p = p .floor + sum n (p .share draw) + sum n (p .earned draw)
+
+abbrev pub allDrawn : ℕ → Pile → ℕ
+allDrawn n p = sum n (p .earned tip)
+
 unfoldable pub tonnage : ℕ → Pile → ℕ
-tonnage n p = p .floor + sum n (p .share draw) + sum n (p .earned draw) - sum n (p .earned tip)
+tonnage n p = hadAndTipped n p - allDrawn n p
+
+-- the pile is between its floor and its top, said without a difference that could fall short: no more was drawn than was there above the floor
+pub record BetweenBounds (n : ℕ) (p : Pile) : Type 0 where
+  pub above-floor : p .floor + allDrawn n p ≤ hadAndTipped n p
+  pub below-top : hadAndTipped n p ≤ p .top + allDrawn n p
 
 -- floor ≤ top ≤ 10,000,000, and all shares of both kinds add up to top - floor
 unfoldable pub openingLawful : ℕ → Pile → Bool

@@ -1,6 +1,7 @@
 -- A pile record in memory: n, floor, top, and all 8 rows and 8 shares of each kind, those past n being zero.
 -- Assumes nothing.
 use Prim.Native.Nat.{ℕ, zero, suc, _+_, _*_}
+use mathlib.Core.Path.{_≡_}
 use mathlib.Core.Bool.{Bool, cond, not}
 use mathlib.Core.List.{List, _∷_, _++_}
 use lib.ListN.{length, getD, set, replicate}
@@ -8,9 +9,10 @@ use lib.Dec.{leb, ltb, eqb}
 use lib.Seq.{sets}
 use Rattle.rules.specs.Loops.{_and_, _or_, between, every, flat, list}
 use Rattle.rules.specs.Refusals.{_when_, _orElse_, done, Reply, reply}
+use Rattle.rules.specs.Numbers.{Octets}
 use Rattle.rules.specs.Pile.{Side, draw, tip, bothSides, Pile, openingLawful, talliesLawful, lawful, sameOpening, rights, tonnage}
 use Rattle.rules.specs.Acts.{Kind, tally, actRefusal}
-use Rattle.rules.specs.Layout.{deskLimit, columns, actColumn, view, bodyView, desks, piles, pileOf, bodyLength, bodyAt, bodyBytes}
+use Rattle.rules.specs.Layout.{headOf, deskLimit, columns, actColumn, view, bodyView, desks, piles, pileOf, bodyLength, bodyAt, bodyBytes}
 use Rattle.rules.specs.Book.{place, fetchAnswer, deskAnswer}
 
 -- The flat arrays: the share of side s and desk j stands at 8s + j; row i of the tallies at i * rowPlaces, its columns as in a body of 8 desks.
@@ -91,13 +93,6 @@ recordDeskAnswer i r = recordAnswer r orElse 11 when not (ltb i (r .n))
 unfoldable pub recordRightsReply : Side → ℕ → Record → Reply
 recordRightsReply s i r = reply (recordDeskAnswer i r) (rights (r .n) (recordView r) s i)
 
--- all that a record's check finds: the tonnage, and the rights of each desk; 0 where the record is refused
-unfoldable pub recordTonnage : Record → ℕ
-recordTonnage r = done (recordAnswer r) (tonnage (r .n) (recordView r)) 0
-
-unfoldable pub recordRights : Side → Record → List ℕ
-recordRights s r = done (recordAnswer r) (list deskLimit (padded (r .n) (rights (r .n) (recordView r) s))) (replicate deskLimit 0)
-
 -- an act of desk i, and the record after it: unaltered where it is refused
 unfoldable pub recordActAnswer : ℕ → Kind → ℕ → Record → ℕ
 recordActAnswer i kind t r = recordDeskAnswer i r orElse actRefusal (r .n) (recordView r) i kind t
@@ -135,20 +130,13 @@ recordOf n p =
 unfoldable pub bodyRecord : ℕ → List ℕ → ℕ → Record
 bodyRecord n b at = cond (between 1 deskLimit n and leb (at + bodyLength n) (length b)) (recordOf n (bodyView n b at)) zeroRecord
 
--- and that of the head's desks, at a position of a book's contents. The book is not checked.
-unfoldable pub recordAt : List ℕ → ℕ → Record
-recordAt b at = bodyRecord (desks b) b at
-
 -- fetching a pile: all zeros where it is refused
 unfoldable pub fetched : List ℕ → ℕ → Record
 fetched b number = done (fetchAnswer b number) (recordOf (desks b) (pileOf b (place b number))) zeroRecord
 
--- what a desk's call finds of a pile: its record, all zeros where the call is refused, and where its body starts, at 0 then
-unfoldable pub deskRecord : ℕ → List ℕ → ℕ → Record
-deskRecord i b number = done (deskAnswer i b number) (recordOf (desks b) (pileOf b (place b number))) zeroRecord
-
+-- where a desk's call finds the body of a pile: its start, and 0 where the call is refused
 unfoldable pub deskStart : ℕ → List ℕ → ℕ → ℕ
-deskStart i b number = done (deskAnswer i b number) (bodyAt (desks b) (piles b) (place b number)) 0
+deskStart i b number = done (deskAnswer i b number) (bodyAt (headOf b) (place b number)) 0
 
 -- storing a pile: the book's own, 10, the record's own, then 30
 unfoldable pub storeAnswer : List ℕ → ℕ → Record → ℕ
@@ -160,4 +148,20 @@ storeAnswer b number r =
 unfoldable pub afterStore : List ℕ → ℕ → Record → List ℕ
 afterStore b number r =
     done (storeAnswer b number r)
-    (sets b (bodyAt (desks b) (piles b) (place b number)) (bodyBytes (desks b) (recordView r))) b
+    (sets b (bodyAt (headOf b) (place b number)) (bodyBytes (desks b) (recordView r))) b
+
+-- Fetching a pile and storing it again restores the file, byte for byte.
+abbrev pub FetchStore : Type 0
+FetchStore =
+    (b : List ℕ) (number : ℕ) → Octets b → fetchAnswer b number ≡ 0
+    → (storeAnswer b number (fetched b number) ≡ 0) × (afterStore b number (fetched b number) ≡ b)
+
+-- A stored pile is fetched unaltered. A record in memory has its two arrays.
+pub record InMemory (r : Record) : Type 0 where
+  pub shares-long : length (r .shares) ≡ sharePlaces
+  pub tallies-long : length (r .tallies) ≡ tallyPlaces
+
+abbrev pub StoreFetch : Type 0
+StoreFetch =
+    (b : List ℕ) (number : ℕ) (r : Record) → Octets b → InMemory r → storeAnswer b number r ≡ 0
+    → (fetchAnswer (afterStore b number r) number ≡ 0) × (fetched (afterStore b number r) number ≡ r)

@@ -89,7 +89,3 @@ handedOn (refused number) mine copy = []
 
 abbrev pub laterRow : List ℕ → List ℕ → List ℕ
 laterRow mine copy = handedOn (compared mine copy) mine copy
-
--- what stands in the place of my row once the copy's has been taken: the later of two rows that are not split, or the common one
-abbrev pub laterOf : List ℕ → List ℕ → List ℕ
-laterOf mine copy = cond (isCopyLater (compared mine copy)) copy mine

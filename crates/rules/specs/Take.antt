@@ -1,6 +1,8 @@
 -- Taking in another desk's copy: a state-based merge, row by row.
 -- Assumes nothing.
 use Prim.Native.Nat.{ℕ, zero, suc, _+_}
+use mathlib.Core.Path.{_≡_}
+use mathlib.Core.Logic.{_↔_}
 use mathlib.Core.Bool.{Bool, not}
 use mathlib.Core.List.{List, _++_}
 use lib.Dec.{ltb, eqb}
@@ -8,13 +10,13 @@ use Rattle.rules.specs.Loops.{_and_, every, flat, sum, count}
 use Rattle.rules.specs.Refusals.{_when_, _orElse_, first, done}
 use Rattle.rules.specs.Numbers.{part}
 use Rattle.rules.specs.Pile.{sameOpening}
-use Rattle.rules.specs.Layout.{rowLength, bodyAt, cellAt, desks, piles, pileNumber, pileOf}
+use Rattle.rules.specs.Layout.{headOf, rowLength, bodyAt, cellAt, desks, piles, pileNumber, pileOf}
 use Rattle.rules.specs.Rows.{Comparison, isAlike, isCopyLater, isSplit, compared, laterRow}
 use Rattle.rules.specs.Book.{bookAnswer}
 
 -- row r of pile k, as a part of its book: row 0 is the opening, row i + 1 desk i's
 unfoldable pub rowPart : List ℕ → ℕ → ℕ → List ℕ
-rowPart b k r = part (bodyAt (desks b) (piles b) k + cellAt (desks b) r 0) (rowLength (desks b)) b
+rowPart b k r = part (bodyAt (headOf b) k + cellAt (desks b) r 0) (rowLength (desks b)) b
 
 -- the copy's own refusals are 21 to 27
 abbrev pub ofCopy : ℕ → ℕ
@@ -47,7 +49,7 @@ takenRow own copy k (suc i) = laterRow (rowPart own k (suc i)) (rowPart copy k (
 
 unfoldable pub taken : List ℕ → List ℕ → List ℕ
 taken own copy =
-    part 0 (bodyAt (desks own) (piles own) 0) own ++ flat (piles own) (λ k. flat (suc (desks own)) (takenRow own copy k))
+    part 0 (bodyAt (headOf own) 0) own ++ flat (piles own) (λ k. flat (suc (desks own)) (takenRow own copy k))
 
 unfoldable pub afterTake : ℕ → List ℕ → List ℕ → List ℕ
 afterTake d own copy = done (takeAnswer d own copy) (taken own copy) own
@@ -62,3 +64,7 @@ changedRows before after = sum (piles before) (λ k. count (desks before) (rowCh
 -- what an accepted take reports: the number of pile and desk pairs whose row changed; 0 beside a refusal's number
 unfoldable pub takeReport : ℕ → List ℕ → List ℕ → ℕ
 takeReport d own copy = done (takeAnswer d own copy) (changedRows own (taken own copy)) 0
+
+-- 5/12: an accepted take reports 0 exactly when the book's bytes are unaltered.
+abbrev pub ReportZero : Type 0
+ReportZero = (d : ℕ) (own copy : List ℕ) → takeAnswer d own copy ≡ 0 → (takeReport d own copy ≡ 0) ↔ (afterTake d own copy ≡ own)

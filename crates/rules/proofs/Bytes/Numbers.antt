@@ -10,11 +10,8 @@ use lib.Dec.{lit<}
 use lib.Seq.{getD-append-add, getD-take, getD-drop, drop-cons}
 use Rattle.rules.specs.Loops.{flat, list}
 use Rattle.rules.specs.Numbers.{number, bytes, encode, part}
+pub use Rattle.rules.specs.Numbers.{Octets}
 use Rattle.rules.proofs.Loops.Pieces.{flat-cong, flat-parts, getD-flat}
-
--- a list of bytes; past its end the default 0 is read
-abbrev pub Octets : List ℕ → Type 0
-Octets b = (k : ℕ) → getD b k 0 < 256
 
 pub octets-bytes : (w x : ℕ) → Octets (bytes w x)
 unfolding bytes

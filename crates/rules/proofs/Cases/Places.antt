@@ -14,7 +14,7 @@ use Rattle.rules.specs.Rows.{compared, orderReply, laterRow}
 use Rattle.rules.specs.Opening.{bufferLength, openingAnswer, opened, afterOpening}
 use Rattle.rules.specs.Book.{bookAnswer, contentsAnswer, afterContents, fetchAnswer, bodyPart, bodyStart, tonnageReply, rightsReply, actAnswer}
 use Rattle.rules.specs.Record.{Record, zeroRecord, recordAnswer, recordTonnageReply, recordRightsReply, recordActAnswer, fetched, storeAnswer}
-use Rattle.rules.specs.Bounds.{boundReply, recordBoundReply, recordBounds}
+use Rattle.rules.specs.Bounds.{boundReply, recordBoundReply}
 use Rattle.rules.specs.Take.{takeAnswer, afterTake}
 use Rattle.rules.proofs.Cases.Table.{Case, case, AllHold, all-hold, shown, takes, actOn, enter, open-loops, open-refusals, open-numbers, open-pile, open-acts, open-layout, open-rows, open-opening, open-book, open-record, open-take, open-bounds}
 use Rattle.rules.proofs.Cases.Letters.{F}
@@ -37,7 +37,7 @@ byte at x = set H at x
 abbrev cell : ℕ → ℕ → ℕ → List ℕ → List ℕ
 cell row column x b = sets b (88 + (row * 24 + column * 4)) (bytes 4 x)
 
--- of pile 9 a number of the opening, a tally too high, a give of desk 1 to itself, more drawn than there were rights
+-- of pile 9 a number of the opening, a tally too high, a give of desk 1 to itself of either side, more drawn than there were rights
 abbrev opening-wrong : List ℕ → List ℕ
 opening-wrong = cell 0 1 7
 
@@ -46,6 +46,9 @@ tally-over = cell 1 0 (1 + tallyLimit)
 
 abbrev give-to-itself : List ℕ → List ℕ
 give-to-itself = cell 2 3 1
+
+abbrev give-tip-to-itself : List ℕ → List ℕ
+give-tip-to-itself = cell 2 5 1
 
 abbrev rights-negative : List ℕ → List ℕ
 rights-negative = cell 1 1 2
@@ -100,7 +103,7 @@ table =
     (answers bookAnswer (byte 0 2 ∷ byte 1 0 ∷ byte 1 9 ∷ byte 2 0 ∷ byte 2 33 ∷ byte 3 1 ∷ byte 4 0 ∷ byte 12 16 ∷ []))
     (2 ∷ 2 ∷ 2 ∷ 2 ∷ 2 ∷ 2 ∷ 4 ∷ 4 ∷ [])
     ∷ case "Each body, in file order: the first pile's 7 before the second's 5"
-    (answers bookAnswer (give-to-itself H ∷ opening-wrong (set H 44 5) ∷ [])) (6 ∷ 7 ∷ [])
+    (answers bookAnswer (give-to-itself H ∷ give-tip-to-itself H ∷ opening-wrong (set H 44 5) ∷ [])) (6 ∷ 6 ∷ 7 ∷ [])
     ∷ case "Pile record alone: 2, 5, 6, 7; an unused share is 5, an unused place 6"
     (answers recordAnswer
     (with-n 0 R
@@ -171,9 +174,6 @@ table =
     ++ shown (recordBoundReply draw 1 R)
     ++ shown (recordBoundReply tip 1 R))
     (3 ∷ 11 ∷ 10 ∷ 0 ∷ 14 ∷ 0 ∷ 30 ∷ 2 ∷ 11 ∷ 0 ∷ 2 ∷ 0 ∷ 6 ∷ [])
-    ∷ case "Least and most of all desks of a record: 0 past n, and where it is refused"
-    (recordBounds draw R ++ recordBounds tip R ++ recordBounds tip (with-n 9 R))
-    ((1 ∷ 2 ∷ 0 ∷ 0 ∷ 0 ∷ 0 ∷ 0 ∷ 0 ∷ []) ++ (5 ∷ 6 ∷ 0 ∷ 0 ∷ 0 ∷ 0 ∷ 0 ∷ 0 ∷ []) ++ (0 ∷ 0 ∷ 0 ∷ 0 ∷ 0 ∷ 0 ∷ 0 ∷ 0 ∷ []))
     ∷ case "Tonnage and fetch: the book's own, 10; the part is empty where fetch refuses"
     (shown (tonnageReply (take 159 H) 6)
     ++ shown (tonnageReply H 6)

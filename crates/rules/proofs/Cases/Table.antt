@@ -12,12 +12,12 @@ use Rattle.rules.specs.Refusals.{_when_, _orElse_, first, done, Reply, r
 use Rattle.rules.specs.Numbers.{number, bytes, encode}
 use Rattle.rules.specs.Pile.{bothSides, credit, debit, rights, lawful, tonnage, openingLawful, talliesLawful, pileAnswer, sameOpening}
 use Rattle.rules.specs.Acts.{Kind, Act, actRefusal}
-use Rattle.rules.specs.Layout.{sizesInRange, rowLength, bodyLength, bodyAt, bookLength, cellAt, pileNumber, position, pileOf, rowOf, bodyRow, bodyBytes, entryBytes, bookBytes}
+use Rattle.rules.specs.Layout.{sizesInRange, rowLength, bodyLength, frontLength, bodyAt, bookLength, cellAt, pileNumber, position, pileOf, rowOf, bodyRow, bodyBytes, headBytes, entryBytes, frontBytes, bookBytes}
 use Rattle.rules.specs.Rows.{atLeast, alike, later, rowOrder, isRowLength, compared}
 use Rattle.rules.specs.Opening.{rising, given, givenPile, bufferLength, openingAnswer, opened, afterOpening}
 use Rattle.rules.specs.Book.{headSound, contentsSound, bookAnswer, place, absent, contentsAnswer, afterContents, fetchAnswer, bodyPart, bodyStart, tonnageReply, deskAnswer, rightsReply, actAnswer, tallyAt, afterAct}
 use Rattle.rules.specs.Record.{unusedShares, unusedPlaces, recordAnswer, freshAnswer, recordTonnageReply, recordDeskAnswer, recordRightsReply, recordActAnswer, paddedRow, recordOf, fetched, storeAnswer, afterStore}
-use Rattle.rules.specs.Bounds.{least, most, boundReply, recordBoundReply, recordBounds}
+use Rattle.rules.specs.Bounds.{least, most, boundReply, recordBoundReply}
 use Rattle.rules.specs.Take.{rowPart, sameBook, rowAnswer, takeAnswer, takenRow, taken, afterTake, rowChanged, changedRows, takeReport}
 
 pub record Case : Type 0 where
@@ -95,7 +95,7 @@ unfolding actRefusal
 open-acts = tt
 
 unfoldable pub open-layout : Unit {0}
-unfolding sizesInRange rowLength bodyLength bodyAt bookLength cellAt pileNumber position pileOf rowOf bodyRow bodyBytes entryBytes bookBytes
+unfolding sizesInRange rowLength bodyLength frontLength bodyAt bookLength cellAt pileNumber position pileOf rowOf bodyRow bodyBytes headBytes entryBytes frontBytes bookBytes
 open-layout = tt
 
 unfoldable pub open-rows : Unit {0}
@@ -119,5 +119,5 @@ unfolding rowPart sameBook rowAnswer takeAnswer takenRow taken afterTake rowChan
 open-take = tt
 
 unfoldable pub open-bounds : Unit {0}
-unfolding least most boundReply recordBoundReply recordBounds
+unfolding least most boundReply recordBoundReply
 open-bounds = tt

@@ -9,14 +9,15 @@ use Rattle.history.proofs.Laws.{own, Ends, run, Entered}
 use Rattle.history.proofs.Made.{always}
 use Rattle.rules.specs.Pile.{draw, tip, Pile}
 use Rattle.rules.specs.Acts.{Act}
-use Rattle.rules.specs.Layout.{bookLength, bookBytes}
+use Rattle.rules.specs.Layout.{headFor, bookLength, bookBytes}
 use Rattle.rules.specs.Opening.{given, givenPile, opened}
 use Rattle.rules.specs.Bounds.{least, most}
 use Rattle.rules.specs.Demand.{book, Between, BookBetween}
 use Rattle.rules.proofs.Pile.Agree.{rights-cong, tonnage-cong}
+use Rattle.rules.proofs.File.Written.{open-head}
 use Rattle.rules.proofs.File.LawfulBook.{Frame, written-number, written-pile, Lawful}
 use Rattle.rules.proofs.File.Opened.{accepted-facts, opened-lawful}
-use Rattle.rules.proofs.Record.Bounds.{least-known, known-most}
+use Rattle.rules.proofs.Pile.Bounds.{least-known, known-most}
 use Rattle.rules.proofs.Demand.Grown.{grown}
 use Rattle.rules.proofs.Demand.Runs.{runs}
 use Rattle.rules.proofs.Demand.Monotone.{rights-grow}
@@ -26,7 +27,7 @@ module _ (n p : ℕ) (numbers : ℕ → ℕ) (frame : Frame n p numbers) (start 
   between : (d : ℕ) (es fs : List (ℕ × Act)) → d < n → Entered book n (bookBytes n p numbers start) es
       → Entered book n (bookBytes n p numbers start) fs → ((e : ℕ) → Ends (own e es) (own e fs)) → own d es ≡ own d fs
       → Between d (run book (bookBytes n p numbers start) es) (run book (bookBytes n p numbers start) fs)
-  unfolding bookBytes least most
+  unfolding open-head least most
   between d es fs d<n ran ran′ grew same =
       let mine = runs n p numbers frame start lawful es ran in
       let all = runs n p numbers frame start lawful fs ran′ in
@@ -61,5 +62,5 @@ pub book-between : BookBetween
 unfolding opened
 book-between n p l accepted =
     always (opened-laws n p l accepted) Between
-    (between n p (λ k. given n l k 0) (accepted-facts n p l (bookLength n p) accepted .frame) (givenPile n l)
-    (opened-lawful n p l (bookLength n p) accepted))
+    (between n p (λ k. given n l k 0) (accepted-facts n p l (bookLength (headFor n p)) accepted .frame) (givenPile n l)
+    (opened-lawful n p l (bookLength (headFor n p)) accepted))

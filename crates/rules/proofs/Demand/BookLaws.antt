@@ -6,18 +6,17 @@ use mathlib.Core.Path.{_≡_, refl, ap, ap₂, sym, _∙_}
 use mathlib.Core.Logic.{⊎-map}
 use mathlib.Core.List.{List}
 use Rattle.history.proofs.Laws.{own, Ends, Longer, run, Entered, Laws}
-use Rattle.history.specs.Guarantees.{Guarantees}
 use Rattle.history.proofs.Demand.{demand3}
 use Rattle.history.proofs.Guarantees.{guarantees}
 use Rattle.rules.specs.Pile.{draw, tip, Pile}
 use Rattle.rules.specs.Acts.{Act}
-use Rattle.rules.specs.Layout.{desks, pileOf, rowOf, bodyRow, bookLength, bookBytes}
-use Rattle.rules.specs.Opening.{given, givenPile, openingAnswer, opened}
+use Rattle.rules.specs.Layout.{headFor, desks, pileOf, rowOf, bodyRow, bookLength, bookBytes}
+use Rattle.rules.specs.Opening.{given, givenPile, Opens, opened}
 use Rattle.rules.specs.Book.{bookAnswer}
 use Rattle.rules.specs.Take.{takeAnswer, afterTake}
-use Rattle.rules.specs.Demand.{book, Within, BookDemand3}
+use Rattle.rules.specs.Demand.{book, Within, BookDemand3, BookGuarantees}
 use Rattle.rules.proofs.Pile.Facts.{facts}
-use Rattle.rules.proofs.Pile.Tonnage.{tonnage-within}
+use Rattle.rules.proofs.Pile.Tonnage.{within-bounds}
 use Rattle.rules.proofs.File.Readable.{book-facts}
 use Rattle.rules.proofs.File.LawfulBook.{Frame, written-readable, Lawful}
 use Rattle.rules.proofs.File.Opened.{accepted-facts, opened-lawful}
@@ -31,7 +30,7 @@ use Rattle.rules.proofs.Demand.EqualBooks.{equal}
 
 -- every pile of a readable book is between its floor and its top
 pub readable-within : (b : List ℕ) → bookAnswer b ≡ 0 → Within b
-readable-within b e k l = tonnage-within (desks b) (pileOf b k) (facts (desks b) (pileOf b k) (book-facts b e .bodies k l))
+readable-within b e k l = within-bounds (desks b) (pileOf b k) (facts (desks b) (pileOf b k) (book-facts b e .bodies k l))
 
 -- an earlier stage of a desk's acts has no tally above a later one's
 behind : (n p : ℕ) (numbers : ℕ → ℕ) (start : ℕ → Pile) (es fs : List (ℕ × Act)) (k i : ℕ) → Ends (own i fs) (own i es)
@@ -99,16 +98,16 @@ module _ (n p : ℕ) (numbers : ℕ → ℕ) (frame : Frame n p numbers) (start 
       }
 
 -- an opened book keeps the five laws
-pub opened-laws : (n p : ℕ) (l : List ℕ) → openingAnswer n p l (bookLength n p) ≡ 0 → Laws book n Within (opened n p l)
+pub opened-laws : (n p : ℕ) (l : List ℕ) → Opens n p l → Laws book n Within (opened n p l)
 unfolding opened
 opened-laws n p l accepted =
-    book-laws n p (λ k. given n l k 0) (accepted-facts n p l (bookLength n p) accepted .frame) (givenPile n l)
-    (opened-lawful n p l (bookLength n p) accepted)
+    book-laws n p (λ k. given n l k 0) (accepted-facts n p l (bookLength (headFor n p)) accepted .frame) (givenPile n l)
+    (opened-lawful n p l (bookLength (headFor n p)) accepted)
 
 -- Demand 3: for every book that an accepted opening writes, and every list of calls of its desks
 pub book-demand3 : BookDemand3
 book-demand3 n p l accepted = demand3 book n Within (opened n p l) (opened-laws n p l accepted)
 
 -- and so the session guarantees, and convergence
-pub book-guarantees : (n p : ℕ) (l : List ℕ) → openingAnswer n p l (bookLength n p) ≡ 0 → Guarantees book n (opened n p l)
+pub book-guarantees : BookGuarantees
 book-guarantees n p l accepted = guarantees (opened-laws n p l accepted)

@@ -2,6 +2,7 @@
 -- floor and top, the newest copy of a desk's own book included; and there are such books of 8 desks. 1/12: no narrower bounds can be told from a book.
 -- Assumes nothing.
 use Prim.Native.Nat.{ℕ, _≤_, _<_}
+use native.Mathlib.Omega.{arith}
 use mathlib.Core.Path.{_≡_, refl}
 use mathlib.Core.List.{List, [], _∷_}
 use lib.ListN.{length}
@@ -13,30 +14,33 @@ use Rattle.history.proofs.Demand.{claim-within}
 use Rattle.history.proofs.Refuted.{own-newest-copy}
 use Rattle.rules.specs.Pile.{tonnage}
 use Rattle.rules.specs.Acts.{Act}
-use Rattle.rules.specs.Layout.{bookLength, desks, piles, pileOf}
-use Rattle.rules.specs.Opening.{openingAnswer, opened}
+use Rattle.rules.specs.Layout.{headFor, bookLength, desks, piles, pileOf}
+use Rattle.rules.specs.Opening.{Opens, opened}
 use Rattle.rules.specs.Take.{takeAnswer}
 use Rattle.rules.specs.Demand.{book, Within, Possible, tonnageOf, TalliesUpTo}
 use Rattle.rules.proofs.Cases.Table.{open-loops, open-refusals, open-pile, open-layout, open-opening}
 use Rattle.rules.proofs.Demand.BookLaws.{book-demand3}
 use Rattle.rules.proofs.Demand.Reached.{book-reached}
 
-module _ (n p : ℕ) (l : List ℕ) (accepted : openingAnswer n p l (bookLength n p) ≡ 0) (h : List (Call Act)) (valid : Valid n h) where
+module _ (n p : ℕ) (l : List ℕ) (accepted : Opens n p l) (h : List (Call Act)) (valid : Valid n h) where
   abbrev bookOf : ℕ → ℕ → List ℕ
   bookOf = books book (opened n p l) h
 
-  -- no book has a pile above its top
-  pub never-above-top : (m i : ℕ) → m ≤ length h → i < n → (k : ℕ) → k < piles (bookOf m i)
-      → tonnage (desks (bookOf m i)) (pileOf (bookOf m i) k) ≤ pileOf (bookOf m i) k .top
-  never-above-top m i m≤h i<n k k<p =
-      claim-within book n Within (opened n p l) h (book-demand3 n p l accepted h valid) m i m≤h i<n k k<p .1
+  -- no book has a pile below its floor or above its top
+  pub never-outside : (m i : ℕ) → m ≤ length h → i < n → (k : ℕ) → k < piles (bookOf m i)
+      → let known = tonnage (desks (bookOf m i)) (pileOf (bookOf m i) k) in
+      (pileOf (bookOf m i) k .floor ≤ known) × (known ≤ pileOf (bookOf m i) k .top)
+  unfolding tonnage
+  never-outside m i m≤h i<n k k<p =
+      let w = claim-within book n Within (opened n p l) h (book-demand3 n p l accepted h valid) m i m≤h i<n k k<p in
+      (omega (arith, w .above-floor, w .below-top), omega (arith, w .below-top))
 
   -- a desk that takes the copy of its own newest book is not refused
   pub own-copy-taken : (i : ℕ) → i < n → takeAnswer i (bookOf (length h) i) (bookOf (length h) i) ≡ 0
   own-copy-taken i i<n = book-demand3 n p l accepted (take i i (length h) ∷ h) (own-newest-copy book n i h i<n valid) .taken .0
 
 -- Whatever can be told of the tonnage by all acts made from a desk's own newest book, it is true of every possible tonnage.
-module _ (n p : ℕ) (l : List ℕ) (accepted : openingAnswer n p l (bookLength n p) ≡ 0) (d : ℕ) (d<n : d < n) (k : ℕ) where
+module _ (n p : ℕ) (l : List ℕ) (accepted : Opens n p l) (d : ℕ) (d<n : d < n) (k : ℕ) where
   abbrev newest : List (Call Act) → List ℕ
   newest h = books book (opened n p l) h (length h) d
 
@@ -52,7 +56,7 @@ module _ (n p : ℕ) (l : List ℕ) (accepted : openingAnswer n p l (bookLength 
 abbrev eight : List ℕ
 eight = 1 ∷ 0 ∷ 8 ∷ 0 ∷ 0 ∷ 0 ∷ 0 ∷ 0 ∷ 0 ∷ 0 ∷ 0 ∷ 1 ∷ 1 ∷ 1 ∷ 1 ∷ 1 ∷ 1 ∷ 1 ∷ 1 ∷ []
 
-eight-accepted : openingAnswer 8 1 eight (bookLength 8 1) ≡ 0
+eight-accepted : Opens 8 1 eight
 unfolding open-loops open-refusals open-pile open-layout open-opening
 eight-accepted = refl
 

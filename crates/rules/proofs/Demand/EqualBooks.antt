@@ -10,12 +10,12 @@ use lib.Dec.{eqb}
 use borrow.Author.Tests.{eq-eqb, eqb-true}
 use Rattle.history.proofs.Laws.{own, Ends, run, Entered}
 use Rattle.rules.specs.Pile.{Side, draw, tip, other, Pile}
-use Rattle.rules.specs.Acts.{Kind, spend, give, Act, tally, sameSide}
+use Rattle.rules.specs.Acts.{Kind, spend, give, Act, tally}
 use Rattle.rules.specs.Layout.{pileOf, bookBytes}
 use Rattle.rules.specs.Book.{actAnswer}
 use Rattle.rules.specs.Demand.{book}
 use Rattle.rules.proofs.Loops.Logic.{and-both}
-use Rattle.rules.proofs.Pile.Acted.{Receives, ActFacts}
+use Rattle.rules.proofs.Pile.Acted.{sameSide, Receives, ActFacts}
 use Rattle.rules.proofs.Pile.Agree.{Agree, agree-sym, agree-trans, tally-cong}
 use Rattle.rules.proofs.File.LawfulBook.{Frame, written-pile, Lawful}
 use Rattle.rules.proofs.Demand.Grown.{at, added, added-append, earnsAt, givesAt, grown}

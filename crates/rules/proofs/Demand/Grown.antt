@@ -12,7 +12,8 @@ use borrow.Author.Tests.{eqb-true, eqb-false, eq-eqb, ne-eqb}
 use Rattle.history.proofs.Laws.{own, Ends}
 use Rattle.rules.specs.Loops.{_and_, index}
 use Rattle.rules.specs.Pile.{Side, other, Pile}
-use Rattle.rules.specs.Acts.{Kind, spend, give, Act, sameSide, acted}
+use Rattle.rules.specs.Acts.{Kind, spend, give, Act}
+use Rattle.rules.proofs.Pile.Acted.{sameSide, acted}
 use Rattle.rules.proofs.Loops.Logic.{decided, and-comm, and-swap, and-false, and-left-holds, and-left-fails, and-right-fails}
 use Rattle.rules.proofs.Pile.Agree.{Agree}
 use Rattle.rules.proofs.File.AfterAct.{actedAt}

@@ -15,15 +15,14 @@ use Rattle.history.specs.Claim.{Claim}
 use Rattle.history.proofs.Sets.{left, right, or-split, equal-sets}
 use Rattle.history.proofs.Moments.{past, past-state, next}
 use Rattle.rules.specs.Acts.{Act}
-use Rattle.rules.specs.Layout.{bookLength}
-use Rattle.rules.specs.Opening.{openingAnswer, opened}
+use Rattle.rules.specs.Opening.{Opens, opened}
 use Rattle.rules.specs.Take.{afterTake, takeReport}
-use Rattle.rules.specs.Demand.{book, Within}
+use Rattle.rules.specs.Demand.{book, Within, NothingNew}
 use Rattle.rules.proofs.Take.Report.{report-zero}
 use Rattle.rules.proofs.Demand.BookLaws.{book-demand3}
 
 -- desk d takes the copy that was made of desk e's book at moment m
-module _ (n p : ℕ) (l : List ℕ) (accepted : openingAnswer n p l (bookLength n p) ≡ 0)
+module _ (n p : ℕ) (l : List ℕ) (accepted : Opens n p l)
     (h : List (Call Act)) (d e m : ℕ) (valid : Valid n (take d e m ∷ h)) where
   abbrev start : List ℕ
   start = opened n p l
@@ -62,10 +61,13 @@ module _ (n p : ℕ) (l : List ℕ) (accepted : openingAnswer n p l (bookLength 
       rw (before-book, after-book, before-set, after-set)
       at (claim .exact (length h) d (suc (length h)) d (le-step (le-refl _)) (valid .0) (le-refl _) (valid .0))
 
-  pub nothing-new : (takeReport d own copy ≡ 0) ↔ (brought ⊆ held)
-  nothing-new =
+  exactly-then : (takeReport d own copy ≡ 0) ↔ (brought ⊆ held)
+  exactly-then =
       let zero = report-zero d own copy (claim .taken .0) in (
         λ none q b. same-book .0 (sym (zero .0 none)) q ∙ right held brought q b,
         λ sub. zero .1 (sym (same-book .1 (λ q. ap (λ (S : Acts). S q)
             (equal-sets (left held brought) (λ q b. ⊎-elim (λ own. own) (sub q) (or-split (held q) b)))))),
       )
+
+pub nothing-new : NothingNew
+nothing-new = exactly-then

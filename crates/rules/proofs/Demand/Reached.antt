@@ -13,7 +13,7 @@ use Rattle.history.proofs.Sequential.{entered-run}
 use Rattle.history.proofs.Unheard.{Beyond, unheard}
 use Rattle.rules.specs.Pile.{Side, draw, tip, Pile, rights, tonnage, tallyLimit}
 use Rattle.rules.specs.Acts.{Act}
-use Rattle.rules.specs.Layout.{bookLength, bookBytes}
+use Rattle.rules.specs.Layout.{headFor, bookLength, bookBytes}
 use Rattle.rules.specs.Opening.{given, givenPile, opened}
 use Rattle.rules.specs.Bounds.{least, most}
 use Rattle.rules.specs.Demand.{book, Possible, TalliesUpTo, Reached, BookReached}
@@ -21,6 +21,7 @@ use Rattle.rules.proofs.Loops.Sums.{term-le}
 use Rattle.rules.proofs.Pile.Facts.{PileFacts}
 use Rattle.rules.proofs.Pile.Tonnage.{tonnage-floor, tonnage-top, tonnage-within}
 use Rattle.rules.proofs.Pile.Agree.{rights-cong, tonnage-cong}
+use Rattle.rules.proofs.File.Written.{open-head}
 use Rattle.rules.proofs.File.LawfulBook.{Frame, written-number, written-pile, Lawful}
 use Rattle.rules.proofs.File.Opened.{accepted-facts, opened-lawful}
 use Rattle.rules.proofs.Demand.Grown.{grown}
@@ -45,7 +46,7 @@ module _ (n p : ℕ) (numbers : ℕ → ℕ) (frame : Frame n p numbers) (start 
   -- the history of acts beyond desk d's book that leave the pile with x
   history-of : (fs : List (ℕ × Act)) → Beyond d es fs → Entered book n begun fs → tonnage n (after fs) ≡ x
       → Reached n begun d (run book begun es) k x
-  unfolding bookBytes
+  unfolding open-head
   history-of fs beyond ran′ is =
       let (h, v, mine, all) = unheard (book-laws n p numbers frame start lawful) d d<n beyond ran′ in
       let before = runs n p numbers frame start lawful es ran in
@@ -86,7 +87,7 @@ module _ (n p : ℕ) (numbers : ℕ → ℕ) (frame : Frame n p numbers) (start 
         (omega (arith, tonnage-top n (after (t .acts)) (after-facts (t .acts) (t .ran)), t .left))
 
   reached : TalliesUpTo 990000000 (run book begun es) → Possible d (run book begun es) k x → Reached n begun d (run book begun es) k x
-  unfolding bookBytes least most
+  unfolding open-head least most
   reached limit possible =
       let mine = runs n p numbers frame start lawful es ran in
       let a = written-pile n p numbers frame _ (mine .1) k k<p in
@@ -98,10 +99,10 @@ module _ (n p : ℕ) (numbers : ℕ → ℕ) (frame : Frame n p numbers) (start 
       by-cases (decLe x (tonnage n own)) (λ l. lowered few low l) (λ l. raised few (omega arith) high)
 
 pub book-reached : BookReached
-unfolding opened bookBytes
+unfolding opened open-head
 book-reached n p l accepted h v d d<n limit k x there possible =
-    let frame = accepted-facts n p l (bookLength n p) accepted .frame in
-    let lawful = opened-lawful n p l (bookLength n p) accepted in
+    let frame = accepted-facts n p l (bookLength (headFor n p)) accepted .frame in
+    let lawful = opened-lawful n p l (bookLength (headFor n p)) accepted in
     let (es, ran, is) = entered-run (opened-laws n p l accepted) h v (length h) d in
     let k<p : k < p = rw (is ∙ runs n p (λ k. given n l k 0) frame (givenPile n l) lawful es ran .0) at there in
     rw is (reached n p (λ k. given n l k 0) frame (givenPile n l) lawful d d<n es ran k k<p x (rw is at limit) (rw is at possible))

@@ -9,14 +9,14 @@ use lib.Dec.{eqb}
 use borrow.Author.Tests.{lt-ltb, ne-eqb}
 use Rattle.history.proofs.Laws.{run, Entered}
 use Rattle.rules.specs.Pile.{Pile}
-use Rattle.rules.specs.Acts.{Kind, Act, acted, actRefusal}
+use Rattle.rules.specs.Acts.{Kind, Act, actRefusal}
 use Rattle.rules.specs.Layout.{pileOf, bookBytes}
 use Rattle.rules.specs.Book.{place, absent, deskAnswer, actAnswer, afterAct}
 use Rattle.rules.specs.Demand.{book}
 use Rattle.rules.proofs.Loops.Refusals.{not-met, none-met}
-use Rattle.rules.proofs.Pile.Acted.{ActFacts, act-passes}
+use Rattle.rules.proofs.Pile.Acted.{acted, ActFacts, act-passes}
 use Rattle.rules.proofs.Pile.Agree.{Agree, agree-sym, facts-cong, act-facts-cong, acted-cong}
-use Rattle.rules.proofs.File.Written.{book-cong}
+use Rattle.rules.proofs.File.Written.{open-head, book-cong}
 use Rattle.rules.proofs.File.LawfulBook.{written-place, Frame, written-octets, written-number, written-pile, written-readable, Lawful}
 use Rattle.rules.proofs.File.AfterAct.{actedAt, act-desk, act-pile, act-allowed, after-act, lawful-after}
 use Rattle.rules.proofs.Demand.Grown.{at, grown, grown-none, grown-acted}
@@ -37,7 +37,7 @@ module _ (n p : ℕ) (numbers : ℕ → ℕ) (frame : Frame n p numbers) where
     -- an act is accepted exactly where its desk and its pile are there, and the pile allows it
     pub accepted-facts : (i : ℕ) (a : Act) → actAnswer i a (bookBytes n p numbers P) ≡ 0
         → (i < n) × (at p numbers (a .pile) < p) × ActFacts n (P (at p numbers (a .pile))) i (a .kind) (a .amount)
-    unfolding bookBytes
+    unfolding open-head
     accepted-facts i a e =
         let i<n : i < n = act-desk i a (bookBytes n p numbers P) e in
         let k<p : at p numbers (a .pile) < p = subst (λ (k : ℕ). k < p) (place-of (a .pile)) (act-pile i a (bookBytes n p numbers P) e) in
@@ -47,7 +47,7 @@ module _ (n p : ℕ) (numbers : ℕ → ℕ) (frame : Frame n p numbers) where
 
     pub facts-accepted : (i : ℕ) (a : Act) → i < n → at p numbers (a .pile) < p
         → ActFacts n (P (at p numbers (a .pile))) i (a .kind) (a .amount) → actAnswer i a (bookBytes n p numbers P) ≡ 0
-    unfolding actAnswer deskAnswer absent bookBytes
+    unfolding actAnswer deskAnswer absent open-head
     facts-accepted i a i<n k<p f =
         none-met
         (none-met (written-readable n p numbers frame P lawful)
@@ -61,7 +61,7 @@ module _ (n p : ℕ) (numbers : ℕ → ℕ) (frame : Frame n p numbers) where
     pub accepted-book : (i : ℕ) (a : Act) → actAnswer i a (bookBytes n p numbers P) ≡ 0
         → (afterAct i a (bookBytes n p numbers P) ≡ bookBytes n p numbers (actedAt P (at p numbers (a .pile)) i (a .kind) (a .amount)))
         × Lawful n p (actedAt P (at p numbers (a .pile)) i (a .kind) (a .amount))
-    unfolding bookBytes
+    unfolding open-head
     accepted-book i a e =
         let k = at p numbers (a .pile) in
         let agree : (k′ : ℕ) → k′ < p

@@ -12,12 +12,12 @@ use Rattle.history.proofs.Laws.{run, Entered}
 use Rattle.history.proofs.Unheard.{Beyond, none, more}
 use Rattle.rules.specs.Loops.{_and_, sum}
 use Rattle.rules.specs.Pile.{Side, draw, tip, other, Pile, rights, tallyLimit}
-use Rattle.rules.specs.Acts.{Act, spend, sameSide, acted}
+use Rattle.rules.specs.Acts.{Act, spend}
 use Rattle.rules.specs.Layout.{bookBytes}
 use Rattle.rules.specs.Book.{actAnswer}
 use Rattle.rules.specs.Demand.{book}
 use Rattle.rules.proofs.Loops.Sums.{sum-cong, sum-add, sum-at, another-term}
-use Rattle.rules.proofs.Pile.Acted.{gain, loss, ActFacts, rights-acted}
+use Rattle.rules.proofs.Pile.Acted.{sameSide, acted, gain, loss, ActFacts, rights-acted}
 use Rattle.rules.proofs.Pile.Agree.{Agree, rights-cong}
 use Rattle.rules.proofs.File.Rising.{place-of-number}
 use Rattle.rules.proofs.File.LawfulBook.{Frame, Lawful}

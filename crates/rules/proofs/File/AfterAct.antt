@@ -1,26 +1,29 @@
 -- The book after an accepted act is the book with that act entered in its one pile, written anew: one number was put, and all others stand apart from it.
 -- Assumes nothing.
-use Prim.Native.Nat.{ℕ, suc, _+_, _<_, suc-le-suc}
+use Prim.Native.Nat.{ℕ, suc, _+_, _≤_, _<_, suc-le-suc}
 use native.Mathlib.Nat.{suc-inj}
 use native.Mathlib.Omega.{arith}
 use mathlib.Core.Path.{_≡_, refl, sym, _∙_}
 use mathlib.Core.Logic.{_⊎_, inl, inr, ⊎-elim, ⊎-map, _≢_}
 use mathlib.Core.Bool.{Bool, true, false, cond, true≢false}
 use mathlib.Core.List.{List}
+use lib.ListN.{length}
 use lib.Dec.{eqb}
 use borrow.Author.Tests.{eqb-true, eqb-false}
 use Rattle.rules.specs.Loops.{_and_}
 use Rattle.rules.specs.Pile.{Side, draw, tip, other, Pile}
-use Rattle.rules.specs.Acts.{Kind, spend, give, Act, tally, sameSide, acted}
-use Rattle.rules.specs.Layout.{bodyAt, column, earnedColumn, actColumn, bodyView, desks, piles, pileNumber, pileOf, bookBytes, columns}
+use Rattle.rules.specs.Acts.{Kind, spend, give, Act, tally}
+use Rattle.rules.specs.Layout.{headOf, bodyAt, column, earnedColumn, actColumn, bodyView, desks, piles, pileNumber, pileOf, bookBytes, columns}
 use Rattle.rules.specs.Book.{bookAnswer, place, deskAnswer, actAnswer, tallyAt, afterAct}
 use Rattle.rules.proofs.Loops.Logic.{and-fails}
 use Rattle.rules.proofs.Loops.Refusals.{when-accepted, orElse-first, orElse-rest}
 use Rattle.rules.proofs.Bytes.Numbers.{Octets}
 use Rattle.rules.proofs.Pile.Facts.{PileFacts, facts}
-use Rattle.rules.proofs.Pile.Acted.{Receives, ActFacts, act-facts, facts-acted, here, there}
+use Rattle.rules.proofs.Pile.Acted.{sameSide, acted, Receives, ActFacts, act-facts, facts-acted, here, there}
 use Rattle.rules.proofs.Pile.Agree.{Agree}
 use Rattle.rules.proofs.File.Body.{column-below}
+use Rattle.rules.proofs.File.Positions.{body-within}
+use Rattle.rules.proofs.File.Cells.{cell-fits}
 use Rattle.rules.proofs.File.Readable.{book-facts}
 use Rattle.rules.proofs.File.Found.{found-readable, found-desk, found-place}
 use Rattle.rules.proofs.File.PutCell.{putCell, Puts, put-cell, put-pile, put-beside, put-written}
@@ -99,7 +102,7 @@ module _ (b : List ℕ) (i t k : ℕ) (i<n : i < desks b) where
 
   -- the pile acted on, as the bytes then have it
   acted-agree : (kind : Kind) → Receives (desks b) i kind → PutsTally kind
-      → Agree (desks b) (bodyView (desks b) (tallyPut kind) (bodyAt (desks b) (piles b) k)) (acted (pileOf b k) i kind t)
+      → Agree (desks b) (bodyView (desks b) (tallyPut kind) (bodyAt (headOf b) k)) (acted (pileOf b k) i kind t)
   unfolding acted pileOf
   acted-agree (spend s) r h =
       record {
@@ -131,7 +134,7 @@ module _ (b : List ℕ) (i t k : ℕ) (i<n : i < desks b) where
 
   -- the other piles
   others-agree : (kind : Kind) → PutsTally kind → (k′ : ℕ) → k ≢ k′
-      → Agree (desks b) (bodyView (desks b) (tallyPut kind) (bodyAt (desks b) (piles b) k′)) (pileOf b k′)
+      → Agree (desks b) (bodyView (desks b) (tallyPut kind) (bodyAt (headOf b) k′)) (pileOf b k′)
   unfolding pileOf
   others-agree kind h k′ d =
       record {
@@ -159,13 +162,13 @@ module _ (i : ℕ) (a : Act) (b : List ℕ) (o : Octets b) (accepted : actAnswer
 
   agree-after : (k : ℕ) → k < piles b
       → Agree (desks b)
-      (bodyView (desks b) (tallyPut b i (a .amount) (place b (a .pile)) (act-desk i a b accepted) (a .kind)) (bodyAt (desks b) (piles b) k))
+      (bodyView (desks b) (tallyPut b i (a .amount) (place b (a .pile)) (act-desk i a b accepted) (a .kind)) (bodyAt (headOf b) k))
       (pilesAfter k)
   agree-after k l = go (eqb k (place b (a .pile))) refl
     where
       go : (test : Bool) → eqb k (place b (a .pile)) ≡ test
           → Agree (desks b)
-          (bodyView (desks b) (tallyPut b i (a .amount) (place b (a .pile)) (act-desk i a b accepted) (a .kind)) (bodyAt (desks b) (piles b) k))
+          (bodyView (desks b) (tallyPut b i (a .amount) (place b (a .pile)) (act-desk i a b accepted) (a .kind)) (bodyAt (headOf b) k))
           (cond test (acted (pileOf b k) i (a .kind) (a .amount)) (pileOf b k))
       go true e =
           rw (eqb-true k (place b (a .pile)) e)
@@ -182,3 +185,14 @@ module _ (i : ℕ) (a : Act) (b : List ℕ) (o : Octets b) (accepted : actAnswer
   lawful-after k l =
       actedAt-facts (desks b) (pileOf b) (place b (a .pile)) i (a .kind) (a .amount) (act-desk i a b accepted) (act-allowed i a b accepted) k
       (facts (desks b) (pileOf b k) (book-facts b (act-readable i a b accepted) .bodies k l))
+
+-- an accepted act's tally stands within the book
+pub act-within : (i : ℕ) (a : Act) (b : List ℕ) → actAnswer i a b ≡ 0 → tallyAt i a b + 4 ≤ length b
+unfolding tallyAt
+act-within i a b accepted =
+    omega (
+      arith,
+      book-facts b (act-readable i a b accepted) .sized,
+      body-within (headOf b) (place b (a .pile)) (act-pile i a b accepted),
+      cell-fits (desks b) (suc i) _ (suc-le-suc (act-desk i a b accepted)) (act-column (desks b) i (a .kind) (act-allowed i a b accepted .receives)),
+    )

@@ -9,7 +9,7 @@ use lib.Dec.{lit<, eqb}
 use Rattle.rules.specs.Loops.{flat, index}
 use Rattle.rules.specs.Numbers.{bytes, encode}
 use Rattle.rules.specs.Pile.{Pile}
-use Rattle.rules.specs.Layout.{Sizes, bodyAt, desks, piles, pileNumber, pileOf, bodyBytes, bodyRow, entryBytes, bookBytes}
+use Rattle.rules.specs.Layout.{Sizes, headFor, desks, piles, pileNumber, pileOf, frontBytes, bodyBytes, bodyRow, bookBytes}
 use Rattle.rules.specs.Opening.{rising}
 use Rattle.rules.specs.Book.{bookAnswer, place}
 use Rattle.rules.proofs.Loops.Every.{index-cong}
@@ -17,8 +17,10 @@ use Rattle.rules.proofs.Bytes.Numbers.{Octets, octets-bytes, octets-app
 use Rattle.rules.proofs.Pile.Facts.{PileFacts, passes}
 use Rattle.rules.proofs.Pile.Agree.{Agree, agree-sym, facts-cong}
 use Rattle.rules.proofs.File.Body.{lawful-fits}
-use Rattle.rules.proofs.File.Written.{length-book, read-number, read-position, read-pile}
-use Rattle.rules.proofs.File.Readable.{BookFacts, book-passes, lengths}
+use Rattle.rules.proofs.File.Positions.{lengths}
+use Rattle.rules.proofs.File.Front.{octets-front}
+use Rattle.rules.proofs.File.Written.{open-head, length-book, read-number, read-position, read-pile}
+use Rattle.rules.proofs.File.Readable.{BookFacts, book-passes}
 use Rattle.rules.proofs.File.Rising.{rising-cong, number-most}
 
 -- the numbers of desks and piles are in range, and the pile numbers rise
@@ -34,29 +36,18 @@ Lawful n p P = (k : ℕ) → k < p → PileFacts n (P k)
 
 module _ (n p : ℕ) (numbers : ℕ → ℕ) (frame : Frame n p numbers) (pile : ℕ → Pile) where
   pub written-octets : Octets (bookBytes n p numbers pile)
-  unfolding bookBytes bodyBytes entryBytes
+  unfolding bookBytes bodyBytes
   written-octets =
-      let contents = flat p (entryBytes n p numbers) in
-      let bodies = flat p (λ k. bodyBytes n (pile k)) in
-      octets-append (1 ∷ n ∷ p ∷ 0 ∷ []) (contents ++ bodies) head
-      (octets-append contents bodies
-      (octets-flat p (entryBytes n p numbers)
-      (λ k. octets-append (bytes 2 (numbers k)) (bytes 4 (bodyAt n p k)) (octets-bytes 2 (numbers k)) (octets-bytes 4 (bodyAt n p k))))
+      octets-append (frontBytes (headFor n p) numbers) (flat p (λ k. bodyBytes n (pile k)))
+      (octets-front (headFor n p) numbers (lit< tt) (omega (arith, frame .sizes .desks-most)) (omega (arith, frame .sizes .piles-most)))
       (octets-flat p (λ k. bodyBytes n (pile k))
-      (λ k. octets-flat (suc n) (λ r. encode (bodyRow n (pile k) r)) (λ r. octets-encode (bodyRow n (pile k) r)))))
-    where
-      head : Octets (1 ∷ n ∷ p ∷ 0 ∷ [])
-      head zero = lit< tt
-      head (suc zero) = omega (arith, frame .sizes .desks-most)
-      head (suc (suc zero)) = omega (arith, frame .sizes .piles-most)
-      head (suc (suc (suc zero))) = lit< tt
-      head (suc (suc (suc (suc k)))) = lit< tt
+      (λ k. octets-flat (suc n) (λ r. encode (bodyRow n (pile k) r)) (λ r. octets-encode (bodyRow n (pile k) r))))
 
   pub written-number : (k : ℕ) → k < p → pileNumber (bookBytes n p numbers pile) k ≡ numbers k
   written-number k l = read-number n p numbers pile k l (number-most p numbers (frame .rises) k l)
 
   pub written-place : (number : ℕ) → place (bookBytes n p numbers pile) number ≡ index p (λ k. eqb (numbers k) number)
-  unfolding place bookBytes
+  unfolding place open-head
   written-place number = index-cong p _ _ (λ k l. ap (λ (x : ℕ). eqb x number) (written-number k l))
 
   module _ (lawful : Lawful n p pile) where
@@ -64,7 +55,7 @@ module _ (n p : ℕ) (numbers : ℕ → ℕ) (frame : Frame n p numbers) (pile :
     written-pile k l = read-pile n p numbers pile k l (lawful-fits n (pile k) (lawful k l))
 
     pub written-facts : BookFacts (bookBytes n p numbers pile)
-    unfolding bookBytes
+    unfolding open-head
     written-facts =
         let size = lengths n p (frame .sizes) in
         record {

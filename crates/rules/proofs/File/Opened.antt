@@ -1,20 +1,21 @@
 -- An accepted opening: the plain facts that it tells, and that what it writes is a readable book, the start of demand 3.
 -- Assumes nothing.
 use Prim.Native.Nat.{ℕ, _+_, _*_, _≤_, _<_}
+use native.Mathlib.Nat.{le-refl}
 use native.Mathlib.Omega.{arith}
 use mathlib.Core.Path.{_≡_, refl, ap, sym, _∙_}
 use mathlib.Core.Bool.{not}
 use mathlib.Core.List.{List}
 use lib.ListN.{length}
 use lib.Seq.{sets}
-use borrow.Author.Tests.{eqb-true, ltb-false}
+use borrow.Author.Tests.{eqb-true, ltb-false, le-ltb}
 use Rattle.rules.specs.Refusals.{_when_, first}
 use Rattle.rules.specs.Numbers.{part}
 use Rattle.rules.specs.Pile.{openingLawful}
-use Rattle.rules.specs.Layout.{bookLength}
-use Rattle.rules.specs.Opening.{given, givenPile, openingAnswer, opened, afterOpening}
+use Rattle.rules.specs.Layout.{headFor, bookLength}
+use Rattle.rules.specs.Opening.{given, givenPile, openingAnswer, opened, afterOpening, Opens, BufferStarts}
 use Rattle.rules.specs.Book.{bookAnswer}
-use Rattle.rules.proofs.Loops.Refusals.{when-done, when-not-done, orElse-first, orElse-rest, first-at, when-accepted}
+use Rattle.rules.proofs.Loops.Refusals.{when-done, when-not-done, orElse-first, orElse-rest, first-at, when-accepted, none-met, not-met}
 use Rattle.rules.proofs.Loops.Sets.{part-sets}
 use Rattle.rules.proofs.Pile.Facts.{PileFacts, opening-facts}
 use Rattle.rules.proofs.Pile.Fresh.{fresh-lawful}
@@ -26,7 +27,7 @@ pub record Accepted (n p : ℕ) (l : List ℕ) (room : ℕ) : Type 0 where
   pub frame : Frame n p (λ k. given n l k 0)
   pub sized : length l ≡ p * (3 + 2 * n)
   pub lawful : first p (λ k. 5 when not (openingLawful n (givenPile n l k))) ≡ 0
-  pub enough : bookLength n p ≤ room
+  pub enough : bookLength (headFor n p) ≤ room
 
 module _ (n p : ℕ) (l : List ℕ) (room : ℕ) (accepted : openingAnswer n p l room ≡ 0) where
   pub accepted-facts : Accepted n p l room
@@ -54,12 +55,21 @@ module _ (n p : ℕ) (l : List ℕ) (room : ℕ) (accepted : openingAnswer n p l
   unfolding opened
   opened-readable = written-readable n p (λ k. given n l k 0) (accepted-facts .frame) (givenPile n l) opened-lawful
 
--- what an accepted opening leaves in the lent buffer begins with the book that demand 3 starts from
-pub buffer-starts : (n p : ℕ) (l out : List ℕ) → openingAnswer n p l (length out) ≡ 0
-    → part 0 (bookLength n p) (afterOpening n p l out) ≡ opened n p l
+-- with more room, or just enough, an opening is answered the same
+just-enough : (n p : ℕ) (l : List ℕ) (room : ℕ) → openingAnswer n p l room ≡ 0 → Opens n p l
+unfolding openingAnswer
+just-enough n p l room accepted =
+    none-met (orElse-first _ _ accepted)
+    (none-met (orElse-first _ _ (orElse-rest _ _ accepted))
+    (none-met (orElse-first _ _ (orElse-rest _ _ (orElse-rest _ _ accepted)))
+    (none-met (orElse-first _ _ (orElse-rest _ _ (orElse-rest _ _ (orElse-rest _ _ accepted)))) (not-met 8 (le-ltb (bookLength (headFor n p)) _ (le-refl _))))))
+
+pub buffer-starts : BufferStarts
 unfolding afterOpening opened
 buffer-starts n p l out accepted =
-    let len = length-book n p (λ k. given n l k 0) (givenPile n l) in
-    ap (part 0 (bookLength n p)) (when-accepted _ _ _ accepted)
-    ∙ ap (λ (m : ℕ). part 0 m (sets out 0 (opened n p l))) (sym len)
-    ∙ part-sets out 0 (opened n p l) (omega (arith, len, accepted-facts n p l (length out) accepted .enough))
+    let len = length-book n p (λ k. given n l k 0) (givenPile n l) in (
+      just-enough n p l (length out) accepted,
+      ap (part 0 (bookLength (headFor n p))) (when-accepted _ _ _ accepted)
+          ∙ ap (λ (m : ℕ). part 0 m (sets out 0 (opened n p l))) (sym len)
+          ∙ part-sets out 0 (opened n p l) (omega (arith, len, accepted-facts n p l (length out) accepted .enough)),
+    )

@@ -1,9 +1,8 @@
 -- A book is readable exactly where these plain facts hold of its bytes; so it is what writing its parts gives, and has 42 to 20,932 bytes.
 -- Assumes nothing.
 use Prim.Native.Nat.{ℕ, _+_, _≤_, _<_}
-use native.Mathlib.Nat.{mul-le-mul}
 use native.Mathlib.Omega.{arith}
-use mathlib.Core.Path.{_≡_, refl}
+use mathlib.Core.Path.{_≡_, refl, ap, sym, _∙_}
 use mathlib.Core.Bool.{true}
 use mathlib.Core.List.{List}
 use lib.ListN.{length, getD}
@@ -12,7 +11,7 @@ use borrow.Author.Tests.{ltb-false, eqb-true, le-leb, le-ltb, eq-eqb}
 use Rattle.rules.specs.Loops.{between}
 use Rattle.rules.specs.Refusals.{_when_, _orElse_}
 use Rattle.rules.specs.Pile.{pileAnswer}
-use Rattle.rules.specs.Layout.{sizesInRange, Sizes, bodyLength, bodyAt, bookLength, desks, piles, pileNumber, position, pileOf, bookBytes}
+use Rattle.rules.specs.Layout.{sizesInRange, Sizes, Head, headOf, headFor, bodyAt, bookLength, desks, piles, pileNumber, position, pileOf, bookBytes}
 use Rattle.rules.specs.Opening.{rising}
 use Rattle.rules.specs.Book.{headSound, contentsSound, bookAnswer}
 use Rattle.rules.proofs.Loops.Logic.{in-range, and-left, and-right, and-both}
@@ -20,6 +19,7 @@ use Rattle.rules.proofs.Loops.Every.{every-at, every-all}
 use Rattle.rules.proofs.Loops.Refusals.{when-most, orElse-most, first-most, when-done, when-not-done, orElse-first, orElse-rest, first-at, first-none}
 use Rattle.rules.proofs.Bytes.Numbers.{Octets}
 use Rattle.rules.proofs.Pile.Agree.{agree-refl}
+use Rattle.rules.proofs.File.Positions.{lengths}
 use Rattle.rules.proofs.File.Written.{write-book}
 
 pub sizes-range : (n p : ℕ) → sizesInRange n p ≡ true → Sizes n p
@@ -39,9 +39,9 @@ pub record BookFacts (b : List ℕ) : Type 0 where
   pub version : getD b 0 0 ≡ 1
   pub fourth : getD b 3 0 ≡ 0
   pub sizes : Sizes (desks b) (piles b)
-  pub sized : length b ≡ bookLength (desks b) (piles b)
+  pub sized : length b ≡ bookLength (headOf b)
   pub rises : rising (piles b) (pileNumber b) ≡ true
-  pub placed : (k : ℕ) → k < piles b → position b k ≡ bodyAt (desks b) (piles b) k
+  pub placed : (k : ℕ) → k < piles b → position b k ≡ bodyAt (headOf b) k
   pub bodies : (k : ℕ) → k < piles b → pileAnswer (desks b) (pileOf b k) ≡ 0
 
 pub book-facts : (b : List ℕ) → bookAnswer b ≡ 0 → BookFacts b
@@ -73,27 +73,26 @@ book-passes b f =
       first-none (piles b) (f .bodies),
     )
 
+-- the head of a readable book
+pub head-read : (b : List ℕ) → BookFacts b → headOf b ≡ headFor (desks b) (piles b)
+head-read b f = ap (λ (v : ℕ). record { version = v; desks = desks b; piles = piles b }) (f .version)
+
 -- a readable book is what writing its parts gives
 pub rewritten : (b : List ℕ) → Octets b → bookAnswer b ≡ 0 → bookBytes (desks b) (piles b) (pileNumber b) (pileOf b) ≡ b
 unfolding pileOf
 rewritten b o e =
     let f = book-facts b e in
-    write-book (desks b) (piles b) (pileNumber b) (pileOf b) b o (f .sized) (f .version) refl refl (f .fourth) (λ k l. refl)
-    (f .placed) (λ k l. agree-refl)
-
--- lengths from 42 to 20,932
-pub lengths : (n p : ℕ) → Sizes n p → (42 ≤ bookLength n p) × (bookLength n p ≤ 20932)
-unfolding bookLength bodyAt bodyLength
-lengths n p s =
-    let low : 2 ≤ n + 1 = omega arith in
-    let high : n + 1 ≤ 9 = omega arith in
-    (omega (arith, mul-le-mul (s .piles-least) (mul-le-mul low low)), omega (arith, mul-le-mul (s .piles-most) (mul-le-mul high high)))
+    let same = head-read b f in
+    write-book (desks b) (piles b) (pileNumber b) (pileOf b) b o (f .sized ∙ ap bookLength same) (f .version) refl refl (f .fourth) (λ k l. refl)
+    (λ k l. f .placed k l ∙ ap (λ (h : Head). bodyAt h k) same)
+    (λ k l. rw (sym same) agree-refl)
 
 pub book-lengths : (b : List ℕ) → bookAnswer b ≡ 0 → (42 ≤ length b) × (length b ≤ 20932)
 book-lengths b e =
     let f = book-facts b e in
+    let sized = f .sized ∙ ap bookLength (head-read b f) in
     let l = lengths (desks b) (piles b) (f .sizes) in
-    (omega (arith, f .sized, l .0), omega (arith, f .sized, l .1))
+    (omega (arith, sized, l .0), omega (arith, sized, l .1))
 
 -- a book's own refusals are 1 to 7
 pub book-answer-most : (b : List ℕ) → bookAnswer b ≤ 7

@@ -4,30 +4,15 @@ use Prim.Native.Nat.{ℕ}
 use mathlib.Core.Path.{_≡_}
 use mathlib.Core.Logic.{_≢_}
 use mathlib.Core.List.{List, []}
-use lib.ListN.{length}
 use Rattle.rules.specs.Acts.{Kind, Act}
-use Rattle.rules.specs.Opening.{openingAnswer, afterOpening}
-use Rattle.rules.specs.Book.{contentsAnswer, afterContents, fetchAnswer, bodyPart, actAnswer, afterAct}
-use Rattle.rules.specs.Record.{Record, zeroRecord, freshAnswer, freshRecord, recordActAnswer, recordAfterAct, fetched, storeAnswer, afterStore}
+use Rattle.rules.specs.Book.{fetchAnswer, bodyPart, actAnswer, afterAct}
+use Rattle.rules.specs.Record.{Record, zeroRecord, freshAnswer, freshRecord, recordActAnswer, recordAfterAct, storeAnswer, afterStore}
 use Rattle.rules.specs.Take.{takeAnswer, afterTake}
 use Rattle.rules.proofs.Loops.Refusals.{when-refused}
-
-pub opening-refused : (n p : ℕ) (l out : List ℕ) → openingAnswer n p l (length out) ≢ 0 → afterOpening n p l out ≡ out
-unfolding afterOpening
-opening-refused n p l out h = when-refused _ _ _ h
-
-pub contents-refused : {Entry : Type 0} (entry : ℕ → ℕ → Entry) (b : List ℕ) (out : List Entry) → contentsAnswer b (length out) ≢ 0
-    → afterContents entry b out ≡ out
-unfolding afterContents
-contents-refused entry b out h = when-refused _ _ _ h
 
 pub body-refused : (b : List ℕ) (number : ℕ) → fetchAnswer b number ≢ 0 → bodyPart b number ≡ []
 unfolding bodyPart
 body-refused b number h = when-refused _ _ _ h
-
-pub fetch-refused : (b : List ℕ) (number : ℕ) → fetchAnswer b number ≢ 0 → fetched b number ≡ zeroRecord
-unfolding fetched
-fetch-refused b number h = when-refused _ _ _ h
 
 pub store-refused : (b : List ℕ) (number : ℕ) (r : Record) → storeAnswer b number r ≢ 0 → afterStore b number r ≡ b
 unfolding afterStore

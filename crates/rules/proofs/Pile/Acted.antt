@@ -12,11 +12,36 @@ use borrow.Author.Tests.{eqb-true, eqb-false, ltb-true, ltb-false, not-false, lt
 use Rattle.rules.specs.Loops.{_and_, sum}
 use Rattle.rules.specs.Refusals.{_when_, _orElse_}
 use Rattle.rules.specs.Pile.{Side, draw, tip, other, Pile, credit, debit, rights, tallyLimit, amountLimit}
-use Rattle.rules.specs.Acts.{Kind, spend, give, side, tally, sameSide, receiverWrong, actRefusal, acted}
+use Rattle.rules.specs.Acts.{Kind, spend, give, side, tally, receiverWrong, actRefusal}
 use Rattle.rules.proofs.Loops.Logic.{and-true, and-false, and-swap, and-last, and-left, and-right, or-left, or-right, or-neither}
 use Rattle.rules.proofs.Loops.Refusals.{when-done, orElse-first, orElse-rest}
 use Rattle.rules.proofs.Loops.Sums.{sum-cong, sum-add, sum-at, sum-zero}
 use Rattle.rules.proofs.Pile.Facts.{PileFacts}
+
+abbrev pub sameSide : Side → Side → Bool
+sameSide draw draw = true
+sameSide draw tip = false
+sameSide tip draw = false
+sameSide tip tip = true
+
+-- the pile after an act of desk i: t more in that one tally
+unfoldable pub acted : Pile → ℕ → Kind → ℕ → Pile
+acted p i (spend s) t =
+    record {
+      floor = p .floor;
+      top = p .top;
+      share = p .share;
+      earned = λ s′ k. cond (sameSide s′ (other s) and eqb k i) (p .earned s′ k + t) (p .earned s′ k);
+      give = p .give;
+    }
+acted p i (give s j) t =
+    record {
+      floor = p .floor;
+      top = p .top;
+      share = p .share;
+      earned = p .earned;
+      give = λ s′ k l. cond (sameSide s′ s and (eqb k i and eqb l j)) (p .give s′ k l + t) (p .give s′ k l);
+    }
 
 -- t where the test holds, and otherwise nothing
 abbrev pub part-of : Bool → ℕ → ℕ

@@ -9,12 +9,12 @@ use borrow.Author.Tests.{eq-eqb}
 use Rattle.rules.specs.Loops.{_and_, every}
 use Rattle.rules.specs.Pile.{Side, draw, tip, other, bothSides, Pile, credit, debit, rights, tallyLimit, lawful, tonnage, openingLawful, talliesLawful, pileAnswer, sameOpening}
 use Rattle.rules.specs.Refusals.{_when_, _orElse_}
-use Rattle.rules.specs.Acts.{Kind, spend, give, side, tally, sameSide, receiverWrong, actRefusal, acted}
+use Rattle.rules.specs.Acts.{Kind, spend, give, side, tally, receiverWrong, actRefusal}
 use Rattle.rules.proofs.Loops.Logic.{decided, and-both}
 use Rattle.rules.proofs.Loops.Every.{every-cong, every-all}
 use Rattle.rules.proofs.Loops.Sums.{sum-cong}
 use Rattle.rules.proofs.Pile.Facts.{OpeningFacts, PileFacts, both-all}
-use Rattle.rules.proofs.Pile.Acted.{Receives, receiver, ActFacts}
+use Rattle.rules.proofs.Pile.Acted.{sameSide, acted, Receives, receiver, ActFacts}
 
 -- two piles have the same numbers, as far as n desks go
 pub record Agree (n : ℕ) (p q : Pile) : Type 0 where
@@ -95,12 +95,6 @@ module _ (n : ℕ) (p q : Pile) (a : Agree n p q) where
   pub answer-cong : pileAnswer n p ≡ pileAnswer n q
   unfolding pileAnswer
   answer-cong = rw (opening-test-cong, tallies-test-cong, lawful-test-cong)
-
-  pub same-opening-cong : (o : Pile) → sameOpening n o p ≡ sameOpening n o q
-  unfolding sameOpening
-  same-opening-cong o =
-      ap₂ _and_ (ap (eqb (o .floor)) (a .floor))
-      (ap₂ _and_ (ap (eqb (o .top)) (a .top)) (every-cong n (λ i l. both-cong (λ s. ap (eqb (o .share s i)) (a .share s i l)))))
 
   pub opening-cong : OpeningFacts n p → OpeningFacts n q
   opening-cong o =

@@ -6,7 +6,7 @@ use native.Mathlib.Omega.{arith}
 use native.Mathlib.Nat.{sub-add-cancel}
 use mathlib.Core.Path.{_≡_, ap₂, sym, _∙_}
 use Rattle.rules.specs.Loops.{sum}
-use Rattle.rules.specs.Pile.{Side, draw, tip, other, Pile, credit, debit, rights, tonnage, topLimit}
+use Rattle.rules.specs.Pile.{Side, draw, tip, other, Pile, credit, debit, rights, tonnage, BetweenBounds, topLimit}
 use Rattle.rules.proofs.Loops.Sums.{sum-cong, sum-add, sum-swap, term-le}
 use Rattle.rules.proofs.Pile.Facts.{PileFacts}
 
@@ -38,6 +38,13 @@ module _ (n : ℕ) (p : Pile) (f : PileFacts n p) where
   pub tonnage-top : tonnage n p + sum n (rights n p tip) ≡ p .top
   unfolding tonnage
   tonnage-top = omega (arith, balance draw, balance tip, f .opening .floor-top, f .opening .shares)
+
+  pub within-bounds : BetweenBounds n p
+  within-bounds =
+      record {
+        above-floor = omega (arith, balance draw);
+        below-top = omega (arith, balance draw, balance tip, f .opening .floor-top, f .opening .shares);
+      }
 
   pub tonnage-within : (p .floor ≤ tonnage n p) × (tonnage n p ≤ p .top)
   tonnage-within = (omega (arith, tonnage-floor), omega (arith, tonnage-top))

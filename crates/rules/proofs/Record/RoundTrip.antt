@@ -11,17 +11,18 @@ use lib.Dec.{eqb}
 use lib.Seq.{sets}
 use borrow.Author.Tests.{eqb-true, eq-eqb, ne-eqb}
 use Rattle.rules.specs.Pile.{Pile}
-use Rattle.rules.specs.Layout.{bodyLength, bodyAt, desks, piles, pileNumber, pileOf, bookBytes}
+use Rattle.rules.specs.Layout.{headOf, bodyLength, bodyAt, desks, piles, pileNumber, pileOf, bookBytes}
 use Rattle.rules.specs.Book.{bookAnswer, place, absent, fetchAnswer}
-use Rattle.rules.specs.Record.{Record, recordView, recordAnswer, recordOf, fetched, storeAnswer, afterStore, sharePlaces, tallyPlaces}
+use Rattle.rules.specs.Record.{Record, recordView, recordAnswer, recordOf, fetched, storeAnswer, afterStore, InMemory, FetchStore, StoreFetch}
 use Rattle.rules.proofs.Loops.Logic.{and-left, and-both}
 use Rattle.rules.proofs.Loops.Refusals.{when-not-done, not-met, none-met, orElse-first, orElse-rest, when-accepted}
 use Rattle.rules.proofs.Loops.Parts.{sets-part}
 use Rattle.rules.proofs.Bytes.Numbers.{Octets}
 use Rattle.rules.proofs.Pile.Facts.{PileFacts, facts}
 use Rattle.rules.proofs.Pile.Agree.{Agree, same-opening}
+use Rattle.rules.proofs.File.Written.{open-head}
 use Rattle.rules.proofs.File.Body.{write-body, body-cong}
-use Rattle.rules.proofs.File.Written.{body-within}
+use Rattle.rules.proofs.File.Positions.{body-within}
 use Rattle.rules.proofs.File.Readable.{BookFacts, book-facts}
 use Rattle.rules.proofs.File.LawfulBook.{Frame, Lawful, readable-frame, written-place, written-pile, written-readable}
 use Rattle.rules.proofs.File.Found.{found-readable, found-place, desk-0-fetch}
@@ -31,8 +32,8 @@ use Rattle.rules.proofs.Record.RecordOf.{record-agrees}
 use Rattle.rules.proofs.Record.OfBody.{body-record}
 use Rattle.rules.proofs.Record.Agreeing.{record-of-agreeing}
 
-pub body-in : (b : List ℕ) → BookFacts b → (k : ℕ) → k < piles b → bodyAt (desks b) (piles b) k + bodyLength (desks b) ≤ length b
-body-in b f k l = omega (arith, f .sized, body-within (desks b) (piles b) k l)
+pub body-in : (b : List ℕ) → BookFacts b → (k : ℕ) → k < piles b → bodyAt (headOf b) k + bodyLength (desks b) ≤ length b
+body-in b f k l = omega (arith, f .sized, body-within (headOf b) k l)
 
 -- a pile that is fetched
 module _ (b : List ℕ) (number : ℕ) (found : fetchAnswer b number ≡ 0) where
@@ -74,15 +75,17 @@ module _ (b : List ℕ) (number : ℕ) (o : Octets b) (found : fetchAnswer b num
   store-restores =
       let fits = body-in b book k (fetched-place b number found) in
       when-accepted _ _ _ store-passes
-      ∙ ap (sets b (bodyAt n (piles b) k)) (body-cong n _ P agrees ∙ write-body n b (bodyAt n (piles b) k) o fits)
-      ∙ sets-part (bodyAt n (piles b) k) (bodyLength n) b fits
+      ∙ ap (sets b (bodyAt (headOf b) k)) (body-cong n _ P agrees ∙ write-body n b (bodyAt (headOf b) k) o fits)
+      ∙ sets-part (bodyAt (headOf b) k) (bodyLength n) b fits
 
-  pub fetch-store : (storeAnswer b number (fetched b number) ≡ 0) × (afterStore b number (fetched b number) ≡ b)
-  fetch-store = rw (fetched-is b number found) (store-passes, store-restores)
+  restored : (storeAnswer b number (fetched b number) ≡ 0) × (afterStore b number (fetched b number) ≡ b)
+  restored = rw (fetched-is b number found) (store-passes, store-restores)
+
+pub fetch-store : FetchStore
+fetch-store = restored
 
 -- a stored pile is fetched unaltered: the file is then the one written with that pile replaced
-module _ (b : List ℕ) (number : ℕ) (r : Record) (o : Octets b) (shares : length (r .shares) ≡ sharePlaces) (tallies : length (r .tallies) ≡ tallyPlaces)
-    (stored : storeAnswer b number r ≡ 0) where
+module _ (b : List ℕ) (number : ℕ) (r : Record) (o : Octets b) (arrays : InMemory r) (stored : storeAnswer b number r ≡ 0) where
   found : fetchAnswer b number ≡ 0
   unfolding storeAnswer
   found = orElse-first _ _ stored
@@ -123,7 +126,7 @@ module _ (b : List ℕ) (number : ℕ) (r : Record) (o : Octets b) (shares : len
   written-at = written-place _ _ _ frame after number
 
   stored-found : fetchAnswer written number ≡ 0
-  unfolding fetchAnswer absent bookBytes
+  unfolding fetchAnswer absent open-head
   stored-found =
       none-met (written-readable _ _ _ frame after lawful)
       (not-met 10 (ap (λ (k : ℕ). eqb k (piles b)) written-at ∙ ne-eqb _ _ (ne-of-lt (fetched-place b number found))))
@@ -132,12 +135,15 @@ module _ (b : List ℕ) (number : ℕ) (r : Record) (o : Octets b) (shares : len
   stored-pile = rw (eq-eqb (place b number) (place b number) refl) at (written-pile _ _ _ frame after lawful (place b number) (fetched-place b number found))
 
   unaltered : fetched written number ≡ r
-  unfolding bookBytes
+  unfolding open-head
   unaltered =
       fetched-is written number stored-found
       ∙ ap (λ (k : ℕ). recordOf (desks b) (pileOf written k)) written-at
       ∙ subst (λ (n : ℕ). (p : Pile) → Agree n p (recordView r) → recordOf n p ≡ r) own-desks
-      (record-of-agreeing r (record-facts r passed) shares tallies) _ stored-pile
+      (record-of-agreeing r (record-facts r passed) (arrays .shares-long) (arrays .tallies-long)) _ stored-pile
 
-  pub store-fetch : (fetchAnswer (afterStore b number r) number ≡ 0) × (fetched (afterStore b number r) number ≡ r)
-  store-fetch = rw after-store (stored-found, unaltered)
+  fetched-again : (fetchAnswer (afterStore b number r) number ≡ 0) × (fetched (afterStore b number r) number ≡ r)
+  fetched-again = rw after-store (stored-found, unaltered)
+
+pub store-fetch : StoreFetch
+store-fetch = fetched-again

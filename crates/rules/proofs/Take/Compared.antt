@@ -7,9 +7,13 @@ use mathlib.Core.List.{List}
 use lib.ListN.{length}
 use borrow.Author.Tests.{eq-eqb, ne-eqb}
 use Rattle.rules.specs.Loops.{_and_}
-use Rattle.rules.specs.Rows.{atLeast, Comparison, bothAlike, refused, rowOrder, isAlike, isCopyLater, isSplit, numbersOf, places, isRowLength, compared, handedOn, laterRow, laterOf}
+use Rattle.rules.specs.Rows.{atLeast, Comparison, bothAlike, refused, rowOrder, isAlike, isCopyLater, isSplit, numbersOf, places, isRowLength, compared, handedOn, laterRow}
 use Rattle.rules.proofs.Loops.Logic.{and-right-fails}
 use Rattle.rules.proofs.Take.RowOrder.{orderBy, row-order, itself-alike}
+
+-- what stands in the place of my row once the copy's has been taken: the later of two rows that are not split, or the common one
+abbrev pub laterOf : List ℕ → List ℕ → List ℕ
+laterOf mine copy = cond (isCopyLater (compared mine copy)) copy mine
 
 module _ (a b : List ℕ) where
   -- is each of them nowhere below the other

@@ -1,7 +1,7 @@
 -- The taken book, written in place: over each row, in file order, the later of it and the copy's row. An opening's row is the same in both.
 -- Assumes nothing.
 use Prim.Native.Nat.{ℕ, zero, suc, _+_, _*_, _≤_, _<_}
-use native.Mathlib.Nat.{zero-lt-suc, le-of-suc-le-suc, add-zero, zero-mul, add-mul, mul-assoc}
+use native.Mathlib.Nat.{zero-lt-suc, le-of-suc-le-suc, add-mul, mul-assoc}
 use native.Mathlib.Omega.{arith}
 use mathlib.Core.Path.{_≡_, refl, ap, ap₂, sym, _∙_}
 use mathlib.Core.Bool.{Bool, true, false, cond, false≢true}
@@ -13,9 +13,9 @@ use Rattle.history.proofs.Sets.{cases}
 use Rattle.rules.specs.Loops.{_and_, flat, every}
 use Rattle.rules.specs.Numbers.{number, part}
 use Rattle.rules.specs.Pile.{sameOpening}
-use Rattle.rules.specs.Layout.{columns, rowLength, bodyLength, frontLength, bodyAt, bookLength, cellAt, column, view, desks, piles, pileNumber, pileOf}
+use Rattle.rules.specs.Layout.{Head, headOf, headFor, columns, rowLength, frontLength, bodyAt, bookLength, cellAt, column, view, desks, piles, pileNumber, pileOf}
 use Rattle.rules.specs.Refusals.{first}
-use Rattle.rules.specs.Rows.{alike, Comparison, bothAlike, mineLater, copyLater, bothSplit, refused, isAlike, isCopyLater, isSplit, numbersOf, places, compared, laterOf, isRowLength}
+use Rattle.rules.specs.Rows.{alike, Comparison, bothAlike, mineLater, copyLater, bothSplit, refused, isAlike, isCopyLater, isSplit, numbersOf, places, compared, isRowLength}
 use Rattle.rules.specs.Book.{bookAnswer}
 use Rattle.rules.specs.Take.{rowPart, ofCopy, sameBook, rowAnswer, takeAnswer, takenRow, taken, afterTake}
 use Rattle.rules.proofs.Loops.Logic.{same, and-left, and-right, and-left-holds}
@@ -29,11 +29,11 @@ use Rattle.rules.proofs.Bytes.Numbers.{number-part}
 use Rattle.rules.proofs.Pile.Facts.{both-at}
 use Rattle.rules.proofs.Pile.Agree.{same-opening}
 use Rattle.rules.proofs.File.Body.{by-column, column-below, row-length, body-rows, row-within}
-use Rattle.rules.proofs.File.Written.{body-within}
-use Rattle.rules.proofs.File.Readable.{BookFacts, book-facts}
+use Rattle.rules.proofs.File.Positions.{body-start, first-body, body-within, book-end}
+use Rattle.rules.proofs.File.Readable.{BookFacts, book-facts, head-read}
 use Rattle.rules.proofs.Take.Order.{alike-at, alike-all}
 use Rattle.rules.proofs.Take.RowOrder.{alike-told}
-use Rattle.rules.proofs.Take.Compared.{compared-rows, later-row}
+use Rattle.rules.proofs.Take.Compared.{laterOf, compared-rows, later-row}
 use Rattle.rules.proofs.Take.RowBytes.{is-row-length}
 use borrow.Author.Tests.{eqb-true, ltb-true, eq-eqb}
 
@@ -49,9 +49,9 @@ opening-alike n cell cell′ =
 
 -- a row of a readable book: it is there, and its numbers are the cells'
 module _ (b : List ℕ) (f : BookFacts b) (k r : ℕ) (k<p : k < piles b) (r<n : r < suc (desks b)) where
-  row-in : bodyAt (desks b) (piles b) k + cellAt (desks b) r 0 + rowLength (desks b) ≤ length b
+  row-in : bodyAt (headOf b) k + cellAt (desks b) r 0 + rowLength (desks b) ≤ length b
   unfolding cellAt
-  row-in = omega (arith, f .sized, body-within (desks b) (piles b) k k<p, row-within (desks b) r r<n)
+  row-in = omega (arith, f .sized, body-within (headOf b) k k<p, row-within (desks b) r r<n)
 
   pub row-long : length (rowPart b k r) ≡ rowLength (desks b)
   unfolding rowPart
@@ -60,10 +60,10 @@ module _ (b : List ℕ) (f : BookFacts b) (k r : ℕ) (k<p : k < piles b) (r<n :
   pub row-count : places (rowPart b k r) ≡ columns (desks b)
   row-count = omega (arith, row-long, row-length (desks b))
 
-  pub row-cell : (c : ℕ) → c < columns (desks b) → numbersOf (rowPart b k r) c ≡ number 4 b (bodyAt (desks b) (piles b) k + cellAt (desks b) r c)
+  pub row-cell : (c : ℕ) → c < columns (desks b) → numbersOf (rowPart b k r) c ≡ number 4 b (bodyAt (headOf b) k + cellAt (desks b) r c)
   unfolding rowPart cellAt
   row-cell c l =
-      number-part 4 b (bodyAt (desks b) (piles b) k + cellAt (desks b) r 0) (rowLength (desks b)) (c * 4) (omega (arith, row-length (desks b))) ∙ ap (number 4 b) (omega arith)
+      number-part 4 b (bodyAt (headOf b) k + cellAt (desks b) r 0) (rowLength (desks b)) (c * 4) (omega (arith, row-length (desks b))) ∙ ap (number 4 b) (omega arith)
 
 -- the row that is handed on
 pub later-of-long : (a b : List ℕ) (ℓ : ℕ) → length a ≡ ℓ → length b ≡ ℓ → length (laterOf a b) ≡ ℓ
@@ -85,11 +85,17 @@ module _ (own copy : List ℕ) (f : BookFacts own) (g : BookFacts copy) (same-n 
   abbrev p : ℕ
   p = piles own
 
+  abbrev h : Head
+  h = headOf own
+
+  pub same-head : headOf own ≡ headOf copy
+  same-head = head-read own f ∙ ap₂ headFor same-n same-p ∙ sym (head-read copy g)
+
   -- row r of body k starts at the same position in both
   abbrev pub rowAt : ℕ → ℕ → ℕ
-  rowAt k r = bodyAt n p k + r * rowLength n
+  rowAt k r = bodyAt h k + r * rowLength n
 
-  pub row-start : (k r : ℕ) → bodyAt n p k + cellAt n r 0 ≡ rowAt k r
+  pub row-start : (k r : ℕ) → bodyAt h k + cellAt n r 0 ≡ rowAt k r
   unfolding cellAt
   row-start k r = omega arith
 
@@ -100,13 +106,13 @@ module _ (own copy : List ℕ) (f : BookFacts own) (g : BookFacts copy) (same-n 
   pub copy-row : (k r : ℕ) → rowPart copy k r ≡ part (rowAt k r) (rowLength n) copy
   unfolding rowPart
   copy-row k r =
-      ap₂ (λ (n p : ℕ). part (bodyAt n p k + cellAt n r 0) (rowLength n) copy) (sym same-n) (sym same-p)
+      ap (λ (h : Head). part (bodyAt h k + cellAt (h .desks) r 0) (rowLength (h .desks)) copy) (sym same-head)
       ∙ ap (λ (at : ℕ). part at (rowLength n) copy) (row-start k r)
 
-  copy-cell : (k r c : ℕ) → k < p → r < suc n → c < columns n → numbersOf (rowPart copy k r) c ≡ number 4 copy (bodyAt n p k + cellAt n r c)
+  copy-cell : (k r c : ℕ) → k < p → r < suc n → c < columns n → numbersOf (rowPart copy k r) c ≡ number 4 copy (bodyAt h k + cellAt n r c)
   copy-cell k r c k<p r<n c<w =
       row-cell copy g k r (omega (arith, same-p)) (omega (arith, same-n)) c (omega (arith, same-n))
-      ∙ ap₂ (λ (n p : ℕ). number 4 copy (bodyAt n p k + cellAt n r c)) (sym same-n) (sym same-p)
+      ∙ ap (λ (h : Head). number 4 copy (bodyAt h k + cellAt (h .desks) r c)) (sym same-head)
 
   -- row r of body k has a row's length, and is as long in both
   pub is-row : (k r : ℕ) → k < p → r < suc n → isRowLength (length (rowPart own k r)) ≡ true
@@ -120,18 +126,18 @@ module _ (own copy : List ℕ) (f : BookFacts own) (g : BookFacts copy) (same-n 
   pub openings-test : (k : ℕ) → k < p → sameOpening n (pileOf own k) (pileOf copy k) ≡ isAlike (compared (rowPart own k 0) (rowPart copy k 0))
   unfolding pileOf alike
   openings-test k k<p =
-      ap (sameOpening n (pileOf own k)) (ap₂ (λ (n p : ℕ). view n (λ r c. number 4 copy (bodyAt n p k + cellAt n r c))) (sym same-n) (sym same-p))
-      ∙ opening-alike n (λ r c. number 4 own (bodyAt n p k + cellAt n r c)) (λ r c. number 4 copy (bodyAt n p k + cellAt n r c))
+      ap (sameOpening n (pileOf own k)) (ap (λ (h : Head). view (h .desks) (λ r c. number 4 copy (bodyAt h k + cellAt (h .desks) r c))) (sym same-head))
+      ∙ opening-alike n (λ r c. number 4 own (bodyAt h k + cellAt n r c)) (λ r c. number 4 copy (bodyAt h k + cellAt n r c))
       ∙ sym (ap (λ (m : ℕ). every m (λ c. eqb (numbersOf (rowPart own k 0) c) (numbersOf (rowPart copy k 0) c))) (row-count own f k 0 k<p (zero-lt-suc n))
       ∙ every-cong (columns n) (λ c l. ap₂ eqb (row-cell own f k 0 k<p (zero-lt-suc n) c l) (copy-cell k 0 c k<p (zero-lt-suc n) l)))
       ∙ sym (ap isAlike (compared-rows _ _ (is-row k 0 k<p (zero-lt-suc n)) (as-long k 0 k<p (zero-lt-suc n))) ∙ alike-told _ _ _)
 
-  first-row : (k : ℕ) → bodyAt n p k ≡ rowAt k 0
+  first-row : (k : ℕ) → bodyAt h k ≡ rowAt k 0
   first-row k = omega arith
 
   -- the tests of a take, on rows found by their position
   pub same-piles-test : every p (λ k. eqb (pileNumber own k) (pileNumber copy k)
-      and isAlike (compared (part (bodyAt n p k) (rowLength n) own) (part (bodyAt n p k) (rowLength n) copy)))
+      and isAlike (compared (part (bodyAt h k) (rowLength n) own) (part (bodyAt h k) (rowLength n) copy)))
       ≡ sameBook own copy
   unfolding sameBook
   same-piles-test =
@@ -149,28 +155,26 @@ module _ (own copy : List ℕ) (f : BookFacts own) (g : BookFacts copy) (same-n 
       first-cong p (λ k _. first-cong n (λ i _. ap₂ (λ (a b : List ℕ). rowAnswer (eqb i d) (compared a b)) (sym (own-row k (suc i))) (sym (copy-row k (suc i)))))
 
   -- rows in file order: row r of body k is row k(n + 1) + r behind the front
-  pub row-in-order : (k r : ℕ) → frontLength p + (k * suc n + r) * rowLength n ≡ rowAt k r
-  unfolding bodyAt
+  pub row-in-order : (k r : ℕ) → frontLength h + (k * suc n + r) * rowLength n ≡ rowAt k r
   row-in-order k r =
-      omega (arith, add-mul (k * suc n) r (rowLength n), mul-assoc k (suc n) (rowLength n) ∙ ap (λ (x : ℕ). k * x) (body-rows n))
+      omega (arith, body-start h k, add-mul (k * suc n) r (rowLength n), mul-assoc k (suc n) (rowLength n) ∙ ap (λ (x : ℕ). k * x) (body-rows n))
 
-  pub rows-end : frontLength p + p * suc n * rowLength n ≡ length own
-  unfolding bookLength bodyAt
-  rows-end = omega (arith, f .sized, mul-assoc p (suc n) (rowLength n) ∙ ap (λ (x : ℕ). p * x) (body-rows n))
+  pub rows-end : frontLength h + p * suc n * rowLength n ≡ length own
+  rows-end = omega (arith, f .sized, book-end h, mul-assoc p (suc n) (rowLength n) ∙ ap (λ (x : ℕ). p * x) (body-rows n))
 
   pub copy-long : length copy ≡ length own
-  copy-long = g .sized ∙ sym (ap₂ bookLength same-n same-p) ∙ sym (f .sized)
+  copy-long = g .sized ∙ sym (ap bookLength same-head) ∙ sym (f .sized)
 
   -- what is written over row r, in file order
   abbrev pub piece : ℕ → List ℕ
-  piece r = laterOf (part (frontLength p + r * rowLength n) (rowLength n) own) (part (frontLength p + r * rowLength n) (rowLength n) copy)
+  piece r = laterOf (part (frontLength h + r * rowLength n) (rowLength n) own) (part (frontLength h + r * rowLength n) (rowLength n) copy)
 
-  pub row-within-both : (r : ℕ) → r < p * suc n → frontLength p + r * rowLength n + rowLength n ≤ length own
+  pub row-within-both : (r : ℕ) → r < p * suc n → frontLength h + r * rowLength n + rowLength n ≤ length own
   row-within-both r l = omega (arith, rows-end, piece-within (rowLength n) l)
 
   pub piece-long : (r : ℕ) → r < p * suc n → length (piece r) ≡ rowLength n
   piece-long r l =
-      let at = frontLength p + r * rowLength n in
+      let at = frontLength h + r * rowLength n in
       later-of-long (part at (rowLength n) own) (part at (rowLength n) copy) (rowLength n) (length-part at (rowLength n) own (row-within-both r l))
       (length-part at (rowLength n) copy (omega (arith, copy-long, row-within-both r l)))
 
@@ -187,12 +191,12 @@ module _ (own copy : List ℕ) (f : BookFacts own) (g : BookFacts copy) (same-n 
         ∙ ap₂ laterOf (sym (own-row k r)) (sym (copy-row k r))
         ∙ row-taken k r k<p l
 
-    taken-in-place : sets own (frontLength p) (flat (p * suc n) piece) ≡ taken own copy
-    unfolding taken bodyAt
+    taken-in-place : sets own (frontLength h) (flat (p * suc n) piece) ≡ taken own copy
+    unfolding taken
     taken-in-place =
-        sets-to-end own (frontLength p) (flat (p * suc n) piece)
+        sets-to-end own (frontLength h) (flat (p * suc n) piece)
         (omega (arith, rows-end, length-flat (p * suc n) (rowLength n) piece piece-long))
-        ∙ ap₂ (λ (m : ℕ) (r : List ℕ). part 0 m own ++ r) (sym (ap (λ (x : ℕ). frontLength p + x) (zero-mul (bodyLength n)) ∙ add-zero (frontLength p)))
+        ∙ ap₂ (λ (m : ℕ) (r : List ℕ). part 0 m own ++ r) (sym (first-body h))
         (flat-flat p (suc n) piece ∙ flat-cong p (λ k k<p. flat-cong (suc n) (λ r l. piece-taken k r k<p l)))
 
 -- what 30 compares, taken apart
@@ -260,10 +264,10 @@ module _ (d : ℕ) (own copy : List ℕ) (accepted : takeAnswer d own copy ≡ 0
   unfolding rowAnswer
   no-row-split k i k<p i<n = when-done _ _ (orElse-first _ _ (rows-pass k i k<p i<n))
 
-  pub written : sets own (frontLength (piles own)) (flat (piles own * suc (desks own)) (piece own copy own-facts copy-facts same-desks same-count)) ≡ taken own copy
+  pub written : sets own (frontLength (headOf own)) (flat (piles own * suc (desks own)) (piece own copy own-facts copy-facts same-desks same-count)) ≡ taken own copy
   written = taken-in-place own copy own-facts copy-facts same-desks same-count openings-alike no-row-split
 
-  pub after-take : sets own (frontLength (piles own)) (flat (piles own * suc (desks own)) (piece own copy own-facts copy-facts same-desks same-count))
+  pub after-take : sets own (frontLength (headOf own)) (flat (piles own * suc (desks own)) (piece own copy own-facts copy-facts same-desks same-count))
       ≡ afterTake d own copy
   unfolding afterTake
   after-take = written ∙ sym (when-accepted _ _ _ accepted)

@@ -20,7 +20,7 @@ use Rattle.rules.proofs.Loops.Refusals.{not-met, none-met, first-none, 
 use Rattle.rules.proofs.Loops.Pieces.{flat-cong}
 use Rattle.rules.proofs.Pile.Agree.{same-opening}
 use Rattle.rules.proofs.File.Body.{Fits, lawful-fits}
-use Rattle.rules.proofs.File.Written.{front-part}
+use Rattle.rules.proofs.File.Written.{open-head, front-part}
 use Rattle.rules.proofs.File.LawfulBook.{Frame, written-number, written-pile, written-readable, Lawful}
 use Rattle.rules.proofs.Take.RowBytes.{row, row-part}
 use Rattle.rules.proofs.Take.MergeRow.{RowLe, no-split, not-later, merge-own, merge-copy}
@@ -57,7 +57,7 @@ module _ (n p : ℕ) (numbers : ℕ → ℕ) (frame : Frame n p numbers) (P Q R 
       (λ s i m. a .share s i m ∙ merged k l .share s i m ∙ sym (b .share s i m))
 
   pub same-book : sameBook own copy ≡ true
-  unfolding sameBook bookBytes
+  unfolding sameBook open-head
   same-book =
       and-both (eq-eqb n n refl)
       (and-both (eq-eqb p p refl)
@@ -83,7 +83,7 @@ module _ (n p : ℕ) (numbers : ℕ → ℕ) (frame : Frame n p numbers) (P Q R 
           (eqb i d)
 
   pub take-accepted : (d : ℕ) → d < n → ((k : ℕ) → k < p → RowLe n (Q k) (P k) d) → takeAnswer d own copy ≡ 0
-  unfolding takeAnswer bookBytes
+  unfolding takeAnswer open-head
   take-accepted d d<n ahead =
       none-met (written-readable n p numbers frame P lawfulP)
       (none-met (ap ofCopy (written-readable n p numbers frame Q lawfulQ))
@@ -104,7 +104,7 @@ module _ (n p : ℕ) (numbers : ℕ → ℕ) (frame : Frame n p numbers) (P Q R 
       (merged k k<p .desk i i<n)
 
   pub taken-book : taken own copy ≡ bookBytes n p numbers R
-  unfolding taken bookBytes bodyBytes
+  unfolding taken open-head bodyBytes
   taken-book =
       ap₂ _++_ (front-part n p numbers P) (flat-cong p (λ k k<p. flat-cong (suc n) (λ r r<n. taken-row k r k<p r<n)))
 

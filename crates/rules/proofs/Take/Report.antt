@@ -9,11 +9,12 @@ use mathlib.Core.Bool.{Bool, cond, not}
 use mathlib.Core.List.{List}
 use lib.ListN.{getD}
 use lib.Seq.{sets}
+use lib.Dec.{lit<}
 use Rattle.rules.specs.Loops.{flat, count}
 use Rattle.rules.specs.Numbers.{part}
-use Rattle.rules.specs.Layout.{rowLength, frontLength, bodyAt, cellAt, desks, piles}
+use Rattle.rules.specs.Layout.{Head, headOf, headFor, rowLength, frontLength, bodyAt, cellAt, desks, piles}
 use Rattle.rules.specs.Rows.{Comparison, isAlike, isCopyLater, compared}
-use Rattle.rules.specs.Take.{rowPart, takeAnswer, takenRow, taken, afterTake, rowChanged, changedRows, takeReport}
+use Rattle.rules.specs.Take.{rowPart, takeAnswer, takenRow, taken, afterTake, rowChanged, changedRows, takeReport, ReportZero}
 use Rattle.rules.proofs.Loops.Sums.{sum-cong, sum-zero}
 use Rattle.rules.proofs.Loops.Counts.{count-cong, count-none, count-no, count-rest, count-runs}
 use Rattle.rules.proofs.Loops.Refusals.{when-accepted}
@@ -21,6 +22,7 @@ use Rattle.rules.proofs.Loops.Ranges.{piece-within}
 use Rattle.rules.proofs.Loops.Pieces.{flat-cong, length-flat, flat-parts, part-behind, part-flat}
 use Rattle.rules.proofs.Loops.Parts.{length-part, sets-part}
 use Rattle.rules.proofs.Loops.Sets.{getD-sets-other, sets-to-end}
+use Rattle.rules.proofs.File.Positions.{head-within}
 use Rattle.rules.proofs.File.Readable.{BookFacts}
 use Rattle.rules.proofs.Take.Compared.{itself, row-changes}
 use Rattle.rules.proofs.Take.InPlace.{row-start, own-row, copy-row, is-row, as-long, row-in-order, rows-end, piece, piece-long, piece-taken, alike-not-later, own-facts, copy-facts, same-desks, same-count, openings-alike, no-row-split, written, after-take}
@@ -32,6 +34,9 @@ module _ (d : ℕ) (own copy : List ℕ) (accepted : takeAnswer d own copy ≡ 0
 
   abbrev p : ℕ
   p = piles own
+
+  abbrev h : Head
+  h = headOf own
 
   abbrev f : BookFacts own
   f = own-facts d own copy accepted
@@ -47,7 +52,7 @@ module _ (d : ℕ) (own copy : List ℕ) (accepted : takeAnswer d own copy ≡ 0
 
   -- row r in file order, and the copy's
   abbrev at : ℕ → List ℕ → List ℕ
-  at r b = part (frontLength p + r * rowLength n) (rowLength n) b
+  at r b = part (frontLength h + r * rowLength n) (rowLength n) b
 
   row-at : (k r : ℕ) → compared (at (k * suc n + r) own) (at (k * suc n + r) copy) ≡ compared (rowPart own k r) (rowPart copy k r)
   row-at k r =
@@ -59,21 +64,26 @@ module _ (d : ℕ) (own copy : List ℕ) (accepted : takeAnswer d own copy ≡ 0
 
   -- the taken book has the front of the taker's, and behind it the rows
   head-kept : (j : ℕ) → j < 4 → getD (taken own copy) j 0 ≡ getD own j 0
-  head-kept j l = ap (λ (b : List ℕ). getD b j 0) (sym (written d own copy accepted)) ∙ getD-sets-other own (frontLength p) (flat (p * suc n) pieces) j (inl (omega arith))
+  head-kept j l = ap (λ (b : List ℕ). getD b j 0) (sym (written d own copy accepted)) ∙ getD-sets-other own (frontLength h) (flat (p * suc n) pieces) j (inl (omega (arith, head-within h)))
+
+  same-head-kept : headOf (taken own copy) ≡ h
+  same-head-kept =
+      ap (λ (v : ℕ). record { version = v; desks = desks (taken own copy); piles = piles (taken own copy) }) (head-kept 0 (lit< tt))
+      ∙ ap₂ (λ (n p : ℕ). record { version = getD own 0 0; desks = n; piles = p }) (head-kept 1 (lit< tt)) (head-kept 2 (lit< tt))
 
   row-of-taken : (k r : ℕ) → k < p → r < suc n → rowPart (taken own copy) k r ≡ takenRow own copy k r
   unfolding rowPart
   row-of-taken k r k<p l =
       let j = k * suc n + r in
       let last : j < p * suc n = omega (arith, piece-within (suc n) k<p) in
-      let front = length-part 0 (frontLength p) own (omega (arith, rows-end own copy f g same-n same-p)) in
-      ap₂ (λ (n p : ℕ). part (bodyAt n p k + cellAt n r 0) (rowLength n) (taken own copy)) (head-kept 1 (omega arith)) (head-kept 2 (omega arith))
+      let front = length-part 0 (frontLength h) own (omega (arith, rows-end own copy f g same-n same-p)) in
+      ap (λ (h : Head). part (bodyAt h k + cellAt (h .desks) r 0) (rowLength (h .desks)) (taken own copy)) same-head-kept
       ∙ ap₂ (λ (at : ℕ) (b : List ℕ). part at (rowLength n) b)
       (row-start own copy f g same-n same-p k r ∙ sym (row-in-order own copy f g same-n same-p k r) ∙ ap (λ (x : ℕ). x + j * rowLength n) (sym front))
       (sym (written d own copy accepted)
-      ∙ sets-to-end own (frontLength p) (flat (p * suc n) pieces)
+      ∙ sets-to-end own (frontLength h) (flat (p * suc n) pieces)
       (omega (arith, rows-end own copy f g same-n same-p, length-flat (p * suc n) (rowLength n) pieces (piece-long own copy f g same-n same-p))))
-      ∙ part-behind (j * rowLength n) (rowLength n) (part 0 (frontLength p) own) (flat (p * suc n) pieces)
+      ∙ part-behind (j * rowLength n) (rowLength n) (part 0 (frontLength h) own) (flat (p * suc n) pieces)
       ∙ part-flat (p * suc n) (rowLength n) pieces (piece-long own copy f g same-n same-p) j last
       ∙ piece-taken own copy f g same-n same-p (openings-alike d own copy accepted) (no-row-split d own copy accepted) k r k<p l
 
@@ -98,9 +108,9 @@ module _ (d : ℕ) (own copy : List ℕ) (accepted : takeAnswer d own copy ≡ 0
   unaltered : takeReport d own copy ≡ 0 → afterTake d own copy ≡ own
   unaltered e =
       sym (after-take d own copy accepted)
-      ∙ ap (sets own (frontLength p)) (flat-cong (p * suc n) (λ r l. ap (λ (b : Bool). cond b (at r copy) (at r own)) (count-no (p * suc n) _ (report ∙ e) r l))
-      ∙ flat-parts (p * suc n) (rowLength n) (frontLength p) own)
-      ∙ sets-part (frontLength p) (p * suc n * rowLength n) own (omega (arith, rows-end own copy f g same-n same-p))
+      ∙ ap (sets own (frontLength h)) (flat-cong (p * suc n) (λ r l. ap (λ (b : Bool). cond b (at r copy) (at r own)) (count-no (p * suc n) _ (report ∙ e) r l))
+      ∙ flat-parts (p * suc n) (rowLength n) (frontLength h) own)
+      ∙ sets-part (frontLength h) (p * suc n * rowLength n) own (omega (arith, rows-end own copy f g same-n same-p))
 
   nothing-changed : afterTake d own copy ≡ own → takeReport d own copy ≡ 0
   unfolding takeReport afterTake changedRows rowChanged
@@ -111,6 +121,5 @@ module _ (d : ℕ) (own copy : List ℕ) (accepted : takeAnswer d own copy ≡ 0
       ∙ count-none n)
       ∙ sum-zero p
 
-  -- 5/12: the report is 0 exactly when the book's bytes are unaltered
-  pub report-zero : (takeReport d own copy ≡ 0 → afterTake d own copy ≡ own) × (afterTake d own copy ≡ own → takeReport d own copy ≡ 0)
-  report-zero = (unaltered, nothing-changed)
+pub report-zero : ReportZero
+report-zero d own copy accepted = (unaltered d own copy accepted, nothing-changed d own copy accepted)

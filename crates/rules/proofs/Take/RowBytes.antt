@@ -11,20 +11,20 @@ use lib.Dec.{eqb}
 use borrow.Author.Tests.{eq-eqb}
 use Rattle.rules.specs.Numbers.{encode, part}
 use Rattle.rules.specs.Pile.{draw, tip, Pile}
-use Rattle.rules.specs.Layout.{deskLimit, rowLength, bodyAt, cellAt, rowOf, bodyRow, bodyBytes, bookBytes, columns}
+use Rattle.rules.specs.Layout.{deskLimit, headFor, rowLength, bodyAt, cellAt, rowOf, bodyRow, bodyBytes, bookBytes, columns}
 use Rattle.rules.specs.Rows.{numbersOf, places, isRowLength}
 use Rattle.rules.specs.Take.{rowPart}
 use Rattle.rules.proofs.Loops.Every.{some-at}
 use Rattle.rules.proofs.Loops.Pieces.{part-flat}
 use Rattle.rules.proofs.Bytes.Numbers.{number-encode}
 use Rattle.rules.proofs.File.Body.{Fits, Fits4, by-column, row-column, length-numbers, row-length, length-body-row, row-within}
-use Rattle.rules.proofs.File.Written.{part-of-body}
+use Rattle.rules.proofs.File.Written.{open-head, part-of-body}
 
 module _ (n p : ℕ) (numbers : ℕ → ℕ) (P : ℕ → Pile) where
   pub row-part : (k r : ℕ) → k < p → r < suc n → rowPart (bookBytes n p numbers P) k r ≡ encode (bodyRow n (P k) r)
-  unfolding rowPart bookBytes cellAt bodyBytes
+  unfolding rowPart open-head cellAt bodyBytes
   row-part k r k<p r<n =
-      ap (λ (at : ℕ). part (bodyAt n p k + at) (rowLength n) (bookBytes n p numbers P)) (add-zero (r * rowLength n))
+      ap (λ (at : ℕ). part (bodyAt (headFor n p) k + at) (rowLength n) (bookBytes n p numbers P)) (add-zero (r * rowLength n))
       ∙ part-of-body n p numbers P k (r * rowLength n) (rowLength n) k<p
       (omega (arith, row-within n r r<n))
       ∙ part-flat (suc n) (rowLength n) (λ r. encode (bodyRow n (P k) r)) (λ r _. length-body-row n (P k) r) r r<n
