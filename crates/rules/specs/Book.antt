@@ -4,7 +4,7 @@
 use Prim.Native.Nat.{ℕ, suc, _+_}
 use mathlib.Core.Bool.{Bool, not}
 use mathlib.Core.List.{List, [], _++_}
-use lib.ListN.{length, getD, drop}
+use lib.ListN.{length, drop}
 use lib.Dec.{ltb, eqb}
 use lib.Seq.{sets}
 use Rattle.rules.specs.Loops.{_and_, every, index, list}
@@ -17,8 +17,7 @@ use Rattle.rules.specs.Opening.{rising}
 
 -- version 1, n, p, 0
 unfoldable pub headSound : List ℕ → Bool
-headSound b =
-    eqb (getD b 0 0) 1 and sizesInRange (desks b) (piles b) and eqb (getD b 3 0) 0
+headSound b = eqb (headOf b .version) 1 and sizesInRange (desks b) (piles b) and eqb (headOf b .fourth) 0
 
 unfoldable pub contentsSound : List ℕ → Bool
 contentsSound b =

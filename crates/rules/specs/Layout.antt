@@ -39,17 +39,19 @@ rowLength n = 8 * (n + 1)
 unfoldable pub bodyLength : ℕ → ℕ
 bodyLength n = 8 * ((n + 1) * (n + 1))
 
--- The head of a book: it decides where everything else stands. That of a list of bytes; and that of a book of n desks and p piles as it is written, version 1.
+-- The head of a book, 4 bytes: it decides where everything else stands. That of a list of bytes; and that of a book of n desks and p piles as it is
+-- written: version 1, n, p, 0.
 pub record Head : Type 0 where
   pub version : ℕ
   pub desks : ℕ
   pub piles : ℕ
+  pub fourth : ℕ
 
 abbrev pub headOf : List ℕ → Head
-headOf b = record { version = getD b 0 0; desks = getD b 1 0; piles = getD b 2 0 }
+headOf b = record { version = getD b 0 0; desks = getD b 1 0; piles = getD b 2 0; fourth = getD b 3 0 }
 
 abbrev pub headFor : ℕ → ℕ → Head
-headFor n p = record { version = 1; desks = n; piles = p }
+headFor n p = record { version = 1; desks = n; piles = p; fourth = 0 }
 
 abbrev pub desks : List ℕ → ℕ
 desks b = headOf b .desks
@@ -129,9 +131,9 @@ bodyRow n p (suc i) = rowOf n (p .earned draw i) (p .earned tip i) (λ s. p .giv
 unfoldable pub bodyBytes : ℕ → Pile → List ℕ
 bodyBytes n p = flat (suc n) (λ row. encode (bodyRow n p row))
 
--- the front of a book from its head and its pile numbers: version, n, p, 0, then the contents
+-- the front of a book from its head and its pile numbers
 unfoldable pub headBytes : Head → List ℕ
-headBytes h = h .version ∷ h .desks ∷ h .piles ∷ 0 ∷ []
+headBytes h = h .version ∷ h .desks ∷ h .piles ∷ h .fourth ∷ []
 
 unfoldable pub entryBytes : Head → (ℕ → ℕ) → ℕ → List ℕ
 entryBytes h numbers k = bytes 2 (numbers k) ++ bytes 4 (bodyAt h k)

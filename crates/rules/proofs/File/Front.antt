@@ -9,7 +9,7 @@ use lib.ListN.{length, getD, take, length-append}
 use lib.Dec.{lit≤, lit<}
 use Rattle.rules.specs.Loops.{flat}
 use Rattle.rules.specs.Numbers.{number, bytes, part}
-use Rattle.rules.specs.Layout.{Head, bodyAt, pileNumber, position, headBytes, entryBytes, frontBytes, entryAt, positionAt, frontLength}
+use Rattle.rules.specs.Layout.{Head, headOf, bodyAt, pileNumber, position, headBytes, entryBytes, frontBytes, entryAt, positionAt, frontLength}
 use Rattle.rules.proofs.Loops.Pieces.{flat-cong, length-flat, flat-parts, part-add}
 use Rattle.rules.proofs.Bytes.Numbers.{Octets, octets-bytes, octets-append, octets-flat, length-bytes, number-front, number-append, number-flat, number-bytes, bytes-number}
 use Rattle.rules.proofs.File.Positions.{entry-within}
@@ -54,9 +54,9 @@ module _ (h : Head) (numbers : ℕ → ℕ) where
       ∙ number-append 4 (bytes 2 (numbers k)) (bytes 4 (bodyAt h k)) 0
       ∙ number-bytes 4 (bodyAt h k) fits
 
-  pub octets-front : h .version < 256 → h .desks < 256 → h .piles < 256 → Octets (frontBytes h numbers)
+  pub octets-front : h .version < 256 → h .desks < 256 → h .piles < 256 → h .fourth < 256 → Octets (frontBytes h numbers)
   unfolding frontBytes headBytes entryBytes
-  octets-front version desks piles =
+  octets-front version desks piles fourth =
       octets-append (headBytes h) (flat (h .piles) (entryBytes h numbers)) head
       (octets-flat (h .piles) (entryBytes h numbers)
       (λ k. octets-append (bytes 2 (numbers k)) (bytes 4 (bodyAt h k)) (octets-bytes 2 (numbers k)) (octets-bytes 4 (bodyAt h k))))
@@ -65,7 +65,7 @@ module _ (h : Head) (numbers : ℕ → ℕ) where
       head zero = version
       head (suc zero) = desks
       head (suc (suc zero)) = piles
-      head (suc (suc (suc zero))) = lit< tt
+      head (suc (suc (suc zero))) = fourth
       head (suc (suc (suc (suc k)))) = lit< tt
 
 -- numbers that are equal where there are piles give one front
@@ -81,17 +81,20 @@ head-four (v ∷ n ∷ []) l = absurd (omega arith)
 head-four (v ∷ n ∷ p ∷ []) l = absurd (omega arith)
 head-four (v ∷ n ∷ p ∷ z ∷ b) l = refl
 
+-- the heads of two books agree where their first four bytes do
+pub head-cong : (a b : List ℕ) → ((k : ℕ) → k < 4 → getD a k 0 ≡ getD b k 0) → headOf a ≡ headOf b
+head-cong a b same =
+    ap₂ (λ (v n : ℕ). record { version = v; desks = n; piles = getD a 2 0; fourth = getD a 3 0 }) (same 0 (lit< tt)) (same 1 (lit< tt))
+    ∙ ap₂ (λ (p z : ℕ). record { version = getD b 0 0; desks = getD b 1 0; piles = p; fourth = z }) (same 2 (lit< tt)) (same 3 (lit< tt))
+
 -- bytes with a head, and the numbers and positions of its piles, begin with that front
 module _ (h : Head) (numbers : ℕ → ℕ) (b : List ℕ) (o : Octets b) (long : frontLength h ≤ length b)
-    (first : getD b 0 0 ≡ h .version) (second : getD b 1 0 ≡ h .desks) (third : getD b 2 0 ≡ h .piles) (fourth : getD b 3 0 ≡ 0)
+    (same : headOf b ≡ h)
     (numbered : (k : ℕ) → k < h .piles → pileNumber b k ≡ numbers k)
     (placed : (k : ℕ) → k < h .piles → position b k ≡ bodyAt h k) where
   write-head : headBytes h ≡ part 0 4 b
   unfolding headBytes frontLength
-  write-head =
-      ap₂ (λ (v n : ℕ). v ∷ n ∷ h .piles ∷ 0 ∷ []) (sym first) (sym second)
-      ∙ ap₂ (λ (p z : ℕ). getD b 0 0 ∷ getD b 1 0 ∷ p ∷ z ∷ []) (sym third) (sym fourth)
-      ∙ sym (head-four b (omega arith))
+  write-head = ap headBytes (sym same) ∙ sym (head-four b (omega arith))
 
   write-entry : (k : ℕ) → k < h .piles → entryBytes h numbers k ≡ part (entryAt k) 6 b
   unfolding entryBytes pileNumber position

@@ -39,7 +39,7 @@ module _ (n p : ℕ) (numbers : ℕ → ℕ) (frame : Frame n p numbers) (pile :
   unfolding bookBytes bodyBytes
   written-octets =
       octets-append (frontBytes (headFor n p) numbers) (flat p (λ k. bodyBytes n (pile k)))
-      (octets-front (headFor n p) numbers (lit< tt) (omega (arith, frame .sizes .desks-most)) (omega (arith, frame .sizes .piles-most)))
+      (octets-front (headFor n p) numbers (lit< tt) (omega (arith, frame .sizes .desks-most)) (omega (arith, frame .sizes .piles-most)) (lit< tt))
       (octets-flat p (λ k. bodyBytes n (pile k))
       (λ k. octets-flat (suc n) (λ r. encode (bodyRow n (pile k) r)) (λ r. octets-encode (bodyRow n (pile k) r))))
 

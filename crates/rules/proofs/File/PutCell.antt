@@ -14,6 +14,7 @@ use Rattle.rules.proofs.Bytes.Numbers.{Octets, octets-bytes}
 use Rattle.rules.proofs.Loops.Sets.{getD-sets-other}
 use Rattle.rules.proofs.Bytes.Put.{octets-sets, put-same, put-other}
 use Rattle.rules.proofs.Pile.Agree.{Agree}
+use Rattle.rules.proofs.File.Front.{head-cong}
 use Rattle.rules.proofs.File.Positions.{head-within, entry-within, body-behind, body-within}
 use Rattle.rules.proofs.File.Written.{write-book}
 use Rattle.rules.proofs.File.Readable.{BookFacts, head-read}
@@ -66,6 +67,9 @@ module _ (b : List ℕ) (k r c v : ℕ) (h : Puts b k r c v) where
   put-beside r′ c′ c′<w d =
       put-other 4 4 b (spot b k r c) v _ (cells-apart (desks b) (bodyAt (headOf b) k) r r′ c c′ (h .column-in) c′<w d)
 
+  same-head : headOf (putCell b k r c v) ≡ headOf b
+  same-head = head-cong (putCell b k r c v) b (λ q l. front q (omega (arith, head-within (headOf b))))
+
   -- it is what writing its piles gives
   pub put-written : (Q : ℕ → Pile)
       → ((k′ : ℕ) → k′ < piles b → Agree (desks b) (bodyView (desks b) (putCell b k r c v) (bodyAt (headOf b) k′)) (Q k′))
@@ -73,11 +77,10 @@ module _ (b : List ℕ) (k r c v : ℕ) (h : Puts b k r c v) where
   unfolding pileNumber position
   put-written Q agree =
       let same = head-read b (h .book) in
-      let head = head-within (headOf b) in
       sym
       (write-book (desks b) (piles b) (pileNumber b) Q (putCell b k r c v)
       (octets-sets b (spot b k r c) (bytes 4 v) (h .octets) (octets-bytes 4 v))
-      (length-sets b (spot b k r c) (bytes 4 v) ∙ h .book .sized ∙ ap bookLength same) (front 0 (omega arith) ∙ h .book .version) (front 1 (omega arith)) (front 2 (omega arith))
-      (front 3 (omega arith) ∙ h .book .fourth) (λ k′ l. put-contents 2 (entryAt k′) (omega (arith, entry-within (headOf b) k′ l)))
+      (length-sets b (spot b k r c) (bytes 4 v) ∙ h .book .sized ∙ ap bookLength same) (same-head ∙ same)
+      (λ k′ l. put-contents 2 (entryAt k′) (omega (arith, entry-within (headOf b) k′ l)))
       (λ k′ l. put-contents 4 (positionAt k′) (omega (arith, entry-within (headOf b) k′ l)) ∙ h .book .placed k′ l ∙ ap (λ (h : Head). bodyAt h k′) same)
       (λ k′ l. rw (sym same) (agree k′ l)))

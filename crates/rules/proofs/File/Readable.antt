@@ -2,7 +2,7 @@
 -- Assumes nothing.
 use Prim.Native.Nat.{ℕ, _+_, _≤_, _<_}
 use native.Mathlib.Omega.{arith}
-use mathlib.Core.Path.{_≡_, refl, ap, sym, _∙_}
+use mathlib.Core.Path.{_≡_, refl, ap, ap₂, sym, _∙_}
 use mathlib.Core.Bool.{true}
 use mathlib.Core.List.{List}
 use lib.ListN.{length, getD}
@@ -36,8 +36,8 @@ sizes-pass n p s =
 
 pub record BookFacts (b : List ℕ) : Type 0 where
   pub long : 4 ≤ length b
-  pub version : getD b 0 0 ≡ 1
-  pub fourth : getD b 3 0 ≡ 0
+  pub version : headOf b .version ≡ 1
+  pub fourth : headOf b .fourth ≡ 0
   pub sizes : Sizes (desks b) (piles b)
   pub sized : length b ≡ bookLength (headOf b)
   pub rises : rising (piles b) (pileNumber b) ≡ true
@@ -75,7 +75,7 @@ book-passes b f =
 
 -- the head of a readable book
 pub head-read : (b : List ℕ) → BookFacts b → headOf b ≡ headFor (desks b) (piles b)
-head-read b f = ap (λ (v : ℕ). record { version = v; desks = desks b; piles = piles b }) (f .version)
+head-read b f = ap₂ (λ (v z : ℕ). record { version = v; desks = desks b; piles = piles b; fourth = z }) (f .version) (f .fourth)
 
 -- a readable book is what writing its parts gives
 pub rewritten : (b : List ℕ) → Octets b → bookAnswer b ≡ 0 → bookBytes (desks b) (piles b) (pileNumber b) (pileOf b) ≡ b
@@ -83,7 +83,7 @@ unfolding pileOf
 rewritten b o e =
     let f = book-facts b e in
     let same = head-read b f in
-    write-book (desks b) (piles b) (pileNumber b) (pileOf b) b o (f .sized ∙ ap bookLength same) (f .version) refl refl (f .fourth) (λ k l. refl)
+    write-book (desks b) (piles b) (pileNumber b) (pileOf b) b o (f .sized ∙ ap bookLength same) same (λ k l. refl)
     (λ k l. f .placed k l ∙ ap (λ (h : Head). bodyAt h k) same)
     (λ k l. rw (sym same) agree-refl)
 

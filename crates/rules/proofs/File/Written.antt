@@ -81,7 +81,7 @@ module _ (n p : ℕ) (numbers : ℕ → ℕ) (pile : ℕ → Pile) where
 
 -- a list of bytes with the length, head, numbers, positions and piles of a book is what writing them gives
 module _ (n p : ℕ) (numbers : ℕ → ℕ) (pile : ℕ → Pile) (b : List ℕ) (o : Octets b) (len : length b ≡ bookLength (headFor n p))
-    (version : getD b 0 0 ≡ 1) (second : desks b ≡ n) (third : piles b ≡ p) (fourth : getD b 3 0 ≡ 0)
+    (same : headOf b ≡ headFor n p)
     (numbered : (k : ℕ) → k < p → pileNumber b k ≡ numbers k)
     (placed : (k : ℕ) → k < p → position b k ≡ bodyAt (headFor n p) k)
     (agree : (k : ℕ) → k < p → Agree n (bodyView n b (bodyAt (headFor n p) k)) (pile k)) where
@@ -96,7 +96,7 @@ module _ (n p : ℕ) (numbers : ℕ → ℕ) (pile : ℕ → Pile) (b : List ℕ
   write-book =
       let front = frontLength (headFor n p) in
       let whole : front + p * bodyLength n ≡ length b = sym (len ∙ book-end (headFor n p)) in
-      ap₂ _++_ (write-front (headFor n p) numbers b o (omega (arith, len, front-within (headFor n p))) version second third fourth numbered placed)
+      ap₂ _++_ (write-front (headFor n p) numbers b o (omega (arith, len, front-within (headFor n p))) same numbered placed)
       (flat-cong p write-pile ∙ flat-parts p (bodyLength n) front b ∙ ap (λ (at : ℕ). part at (p * bodyLength n) b) (sym (zero-add front)))
       ∙ sym (part-add 0 front (p * bodyLength n) b)
       ∙ take-all (front + p * bodyLength n) b (omega arith)

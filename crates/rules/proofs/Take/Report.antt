@@ -9,7 +9,6 @@ use mathlib.Core.Bool.{Bool, cond, not}
 use mathlib.Core.List.{List}
 use lib.ListN.{getD}
 use lib.Seq.{sets}
-use lib.Dec.{lit<}
 use Rattle.rules.specs.Loops.{flat, count}
 use Rattle.rules.specs.Numbers.{part}
 use Rattle.rules.specs.Layout.{Head, headOf, headFor, rowLength, frontLength, bodyAt, cellAt, desks, piles}
@@ -23,6 +22,7 @@ use Rattle.rules.proofs.Loops.Pieces.{flat-cong, length-flat, flat-part
 use Rattle.rules.proofs.Loops.Parts.{length-part, sets-part}
 use Rattle.rules.proofs.Loops.Sets.{getD-sets-other, sets-to-end}
 use Rattle.rules.proofs.File.Positions.{head-within}
+use Rattle.rules.proofs.File.Front.{head-cong}
 use Rattle.rules.proofs.File.Readable.{BookFacts}
 use Rattle.rules.proofs.Take.Compared.{itself, row-changes}
 use Rattle.rules.proofs.Take.InPlace.{row-start, own-row, copy-row, is-row, as-long, row-in-order, rows-end, piece, piece-long, piece-taken, alike-not-later, own-facts, copy-facts, same-desks, same-count, openings-alike, no-row-split, written, after-take}
@@ -67,9 +67,7 @@ module _ (d : ℕ) (own copy : List ℕ) (accepted : takeAnswer d own copy ≡ 0
   head-kept j l = ap (λ (b : List ℕ). getD b j 0) (sym (written d own copy accepted)) ∙ getD-sets-other own (frontLength h) (flat (p * suc n) pieces) j (inl (omega (arith, head-within h)))
 
   same-head-kept : headOf (taken own copy) ≡ h
-  same-head-kept =
-      ap (λ (v : ℕ). record { version = v; desks = desks (taken own copy); piles = piles (taken own copy) }) (head-kept 0 (lit< tt))
-      ∙ ap₂ (λ (n p : ℕ). record { version = getD own 0 0; desks = n; piles = p }) (head-kept 1 (lit< tt)) (head-kept 2 (lit< tt))
+  same-head-kept = head-cong (taken own copy) own head-kept
 
   row-of-taken : (k r : ℕ) → k < p → r < suc n → rowPart (taken own copy) k r ≡ takenRow own copy k r
   unfolding rowPart
