@@ -117,3 +117,14 @@ unfolding index
 index-cong zero t u h = refl
 index-cong (suc n) t u h =
     ap₂ (λ (b : Bool) (x : ℕ). cond b 0 (suc x)) (h 0 (zero-lt-suc n)) (index-cong n _ _ (λ k l. h (suc k) (suc-le-suc l)))
+
+-- where there is such a number, the test holds there
+pub index-holds : (n : ℕ) (t : ℕ → Bool) → index n t < n → t (index n t) ≡ true
+unfolding index
+index-holds zero t l = absurd (not-suc-le-zero l)
+index-holds (suc n) t l = go (t 0) refl (index-holds n (λ k. t (suc k))) l
+  where
+    go : (b : Bool) → t 0 ≡ b → (index n (λ k. t (suc k)) < n → t (suc (index n (λ k. t (suc k)))) ≡ true)
+        → cond b 0 (suc (index n (λ k. t (suc k)))) < suc n → t (cond b 0 (suc (index n (λ k. t (suc k))))) ≡ true
+    go true e later l = e
+    go false e later l = later (le-of-suc-le-suc l)
