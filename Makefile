@@ -17,11 +17,11 @@ VERSION = $(shell sed -n 's/^version = "\(.*\)"/\1/p' bindings/rust/Cargo.toml)
 RUST = PITBOOK_LIB_DIR=$(abspath $(LIB_DIR)) CARGO_TARGET_DIR=$(CURDIR)/target/cargo $(CARGO)
 RUST_FLAGS = --offline --locked --manifest-path bindings/rust/Cargo.toml
 
-.PHONY: test run listings lib test-c test-rust test-memory install bench fuzz
+.PHONY: test run contracts listings lib test-c test-rust install bench fuzz
 
 # What is compiled is tested from outside; then every crate is proved from nothing, every must-fail edit is tried, every program is run.
 # The last line is the verdict: N passed, 0 failed.
-test: listings test-c test-rust
+test: contracts listings test-c test-rust
 	$(RT) fmt --check
 	$(RT) ci
 
@@ -32,6 +32,11 @@ run:
 	@$(RT) check rules relays ticket reconcile lister
 	@sed -n 's/^.*case "\(.*\)".*$$/holds: \1/p' $(CASES)
 	@target/bin/lister <crates/lister/stdin
+
+# Each public function of a library promises something of all that it hands back, and requires nothing; and that each promise would be missed.
+contracts:
+	sh tests/contracts/run
+	sh tests/contracts/selftest
 
 # The lister on every stored book.
 listings:
