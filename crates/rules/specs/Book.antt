@@ -12,12 +12,12 @@ use Rattle.rules.specs.Refusals.{_when_, _orElse_, first, done, Reply, r
 use Rattle.rules.specs.Numbers.{bytes, part}
 use Rattle.rules.specs.Pile.{Side, pileAnswer, rights, tonnage}
 use Rattle.rules.specs.Acts.{Act, tally, actRefusal}
-use Rattle.rules.specs.Layout.{headOf, bodyLength, bodyAt, bookLength, cellAt, actColumn, desks, piles, pileNumber, position, pileOf, sizesInRange}
+use Rattle.rules.specs.Layout.{Head, headOf, bodyLength, bodyAt, bookLength, cellAt, actColumn, desks, piles, pileNumber, position, pileOf, sizesInRange}
 use Rattle.rules.specs.Opening.{rising}
 
 -- version 1, n, p, 0
-unfoldable pub headSound : List ℕ → Bool
-headSound b = eqb (headOf b .version) 1 and sizesInRange (desks b) (piles b) and eqb (headOf b .fourth) 0
+unfoldable pub headSound : Head → Bool
+headSound h = eqb (h .version) 1 and sizesInRange (h .desks) (h .piles) and eqb (h .fourth) 0
 
 unfoldable pub contentsSound : List ℕ → Bool
 contentsSound b =
@@ -27,7 +27,7 @@ contentsSound b =
 unfoldable pub bookAnswer : List ℕ → ℕ
 bookAnswer b =
     1 when ltb (length b) 4
-    orElse 2 when not (headSound b)
+    orElse 2 when not (headSound (headOf b))
     orElse 3 when not (eqb (length b) (bookLength (headOf b)))
     orElse 4 when not (contentsSound b)
     orElse first (piles b) (λ k. pileAnswer (desks b) (pileOf b k))

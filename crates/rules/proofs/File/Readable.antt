@@ -47,7 +47,7 @@ pub record BookFacts (b : List ℕ) : Type 0 where
 pub book-facts : (b : List ℕ) → bookAnswer b ≡ 0 → BookFacts b
 unfolding bookAnswer headSound contentsSound
 book-facts b e =
-    let head : headSound b ≡ true = when-not-done _ _ (orElse-first _ _ (orElse-rest _ _ e)) in
+    let head : headSound (headOf b) ≡ true = when-not-done _ _ (orElse-first _ _ (orElse-rest _ _ e)) in
     let rest = orElse-rest _ _ (orElse-rest _ _ e) in
     let contents : contentsSound b ≡ true = when-not-done _ _ (orElse-first _ _ (orElse-rest _ _ rest)) in
     record {

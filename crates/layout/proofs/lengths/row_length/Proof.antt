@@ -1,0 +1,27 @@
+-- `row_length` is the rule for a row.
+-- Assumes nothing.
+use native.Mathlib.Omega.{arith}
+use Rattle.rules.specs.Layout.{rowLength}
+use borrow.Author.Needs.{needs}
+use Rattle.layout.proofs.lengths.row_length.Statement.{statement}
+use Rattle.layout.proofs.lengths.row_length.Tie as tie
+
+-- src/lengths.rt:41:5
+mul-result : tie.Need-mul-result
+mul-result c = search needs
+
+-- src/lengths.rt:41:19
+add-result : tie.Need-add-result
+add-result c = search needs
+
+-- src/lengths.rt:41:5
+mul-result-2 : tie.Need-mul-result-2
+mul-result-2 c = search needs
+
+-- src/lengths.rt:38:1
+returns : tie.Need-returns
+unfolding rowLength
+returns c = omega arith
+
+pub row-length-spec : {M : Type 1} → statement M
+row-length-spec = tie.close (tie.spec mul-result add-result mul-result-2 returns)
