@@ -8,7 +8,7 @@ ghost use Rattle.rules.specs.Pile.{rights};
 ghost use Rattle.rules.specs.Layout.{desks, bodyView};
 ghost use Rattle.pile.specs.View.{sideOf};
 ghost use Rattle.pile.specs.Replies.{asReply};
-ghost use Rattle.book.specs.Within.{SoundBody};
+ghost use Rattle.book.specs.Inner.{SoundBody};
 
 // By the body that `seek` has found. It is sought by the callers: with that in it the function is too long to be inlined, and its answer goes through memory.
 pub(crate) fn rights_of(book: &[u8], side: u8, desk: u8, found: Sought) -> Amount
@@ -20,7 +20,5 @@ pub(crate) fn rights_of(book: &[u8], side: u8, desk: u8, found: Sought) -> Amoun
     if refusal != 0 {
         return Amount::Refused(refusal);
     }
-    let n = book[1] as usize;
-    let start = found.start;
-    Amount::Tonnes(rights_in(book, start, n, side, desk) as u32)
+    Amount::Tonnes(rights_in(book, found.start as usize, found.desks, side, desk) as u32)
 }

@@ -1,42 +1,44 @@
 // Is a book readable? The first refusal of its bytes and bodies.
-use crate::head::contents_sound;
-use crate::head::head_sound;
-use crate::layout::body_at;
-use crate::layout::front_length;
+use crate::contents::contents_sound;
 use audit::check_bodies;
+use layout::head::HEAD;
+use layout::head::Head;
+use layout::head::body_at;
+use layout::head::front_length;
+use layout::head::head_of;
+use layout::head::head_sound;
 ghost use mathlib.Core.Path.{_≡_};
 ghost use Rattle.rules.specs.Refusals.{first};
 ghost use Rattle.rules.specs.Pile.{pileAnswer};
 ghost use Rattle.rules.specs.Layout.{bodyView, bodyAt};
 ghost use Rattle.rules.specs.Book.{bookAnswer};
-ghost use Rattle.book.specs.Within.{BookSized};
+ghost use Rattle.layout.specs.Positions.{asHead};
+ghost use Rattle.book.specs.Inner.{BookSized};
 
 // The first refusal of a body, in file order.
-pub(crate) fn bodies_answer(book: &[u8], n: u8, p: usize) -> u8
-    requires { ⌜ BookSized n p (now book) ⌝ }
-    ensures { λ r. ⌜ r ≡ first p (λ k. pileAnswer n (bodyView n (now (book .entry)) (bodyAt n p k))) ⌝ }
+pub(crate) fn bodies_answer(book: &[u8], head: Head) -> u8
+    requires { ⌜ BookSized (asHead head) (now book) ⌝ }
+    ensures { λ r. ⌜ r ≡ first (head .piles) (λ k. pileAnswer (head .desks) (bodyView (head .desks) (now (book .entry)) (bodyAt (asHead head) k))) ⌝ }
 {
-    let desks = n as usize;
-    check_bodies(book, front_length(p), desks, p)
+    check_bodies(book, front_length(head), head.desks, head.piles as usize)
 }
 
 // A book's own answer: head, length and contents, and then its bodies.
 pub(crate) fn book_answer(book: &[u8]) -> u8
     ensures { λ r. ⌜ r ≡ bookAnswer (now (book .entry)) ⌝ }
 {
-    if book.len() < 4 {
+    if book.len() < HEAD {
         return 1;
     }
-    if !head_sound(book) {
+    let head = head_of(book);
+    if !head_sound(head) {
         return 2;
     }
-    let n = book[1];
-    let p = book[2] as usize;
-    if book.len() != body_at(n as usize, p, p) {
+    if book.len() != body_at(head, head.piles) {
         return 3;
     }
-    if !contents_sound(book, n as usize, p) {
+    if !contents_sound(book, head) {
         return 4;
     }
-    bodies_answer(book, n, p)
+    bodies_answer(book, head)
 }

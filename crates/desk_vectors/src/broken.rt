@@ -5,7 +5,7 @@ use crate::outcome;
 use crate::takes::LENGTH;
 use crate::takes::h;
 use book::check;
-use book::open;
+use opening::open;
 
 // The book with another byte.
 pub(crate) fn with(book: [u8; LENGTH], at: usize, byte: u8) -> [u8; LENGTH] {

@@ -5,14 +5,14 @@ use crate::outcome;
 use crate::pile_of;
 use crate::rights;
 use crate::taken;
-use book::length;
-use book::open;
 use desk::draw;
-use desk::take;
 use desk::tip;
+use layout::head::book_length;
+use opening::open;
 use samples::decimal;
 use samples::longest_list;
 use samples::text;
+use take::take;
 
 const LENGTH: usize = 20932;
 
@@ -62,7 +62,7 @@ fn compared(copy: [u8; LENGTH], book: [u8; LENGTH]) {
 
 pub(crate) fn run() {
     text(b"length for 8 desks and 32 piles: ");
-    decimal(length(8, 32) as u64);
+    decimal(book_length(8, 32) as u64);
     end();
     let fresh = opened();
     let copy = acted(fresh);

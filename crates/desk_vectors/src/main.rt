@@ -11,10 +11,10 @@ mod worked;
 use book::draw_rights;
 use book::tip_rights;
 use book::tonnage;
-use desk::Taken;
 use samples::amount;
 use samples::decimal;
 use samples::text;
+use take::Taken;
 
 pub(crate) fn wide(x: u8) -> u64 {
     x as u64

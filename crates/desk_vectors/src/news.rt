@@ -2,10 +2,10 @@
 use crate::end;
 use crate::outcome;
 use crate::taken;
-use book::open;
 use desk::draw;
-use desk::take;
 use desk::tip;
+use opening::open;
+use take::take;
 
 const LENGTH: usize = 406;
 

@@ -10,12 +10,12 @@ use crate::end;
 use crate::outcome;
 use crate::pile_of;
 use crate::taken;
-use book::open;
-use desk::Taken;
 use desk::draw;
 use desk::give_tip;
-use desk::take;
 use desk::tip;
+use opening::open;
+use take::Taken;
+use take::take;
 
 pub(crate) const LENGTH: usize = 160;
 

@@ -5,12 +5,12 @@ use crate::outcome;
 use crate::pile_of;
 use crate::rights;
 use crate::taken;
-use book::open;
 use desk::draw;
 use desk::give_draw;
 use desk::give_tip;
-use desk::take;
 use desk::tip;
+use opening::open;
+use take::take;
 
 const LENGTH: usize = 138;
 

@@ -6,13 +6,16 @@ use native.Mathlib.Omega.{arith}
 use mathlib.Core.Path.{_≡_, ap, sym, _∙_}
 use mathlib.Core.Logic.{⊎-elim}
 use mathlib.Core.Bool.{cond}
+use mathlib.Core.List.{List}
+use lib.ListN.{length}
+use borrow.Author.Tests.{le-ltb}
 use Rattle.rules.specs.Loops.{between}
-use Rattle.rules.specs.Layout.{Head, deskLimit, bodyLength, frontLength, bodyAt}
+use Rattle.rules.specs.Layout.{Head, headOf, deskLimit, bodyLength, frontLength, bodyAt}
 use Rattle.rules.specs.Opening.{bodySize}
 use Rattle.rules.proofs.Loops.Logic.{decided, in-range}
 use Rattle.rules.proofs.File.BodySize.{size-in-range}
 use Rattle.rules.proofs.File.Positions.{body-start}
-use Rattle.layout.specs.Positions.{bodyPosition}
+use Rattle.layout.specs.Positions.{headIn, bodyPosition}
 
 pub body-most : (n : ℕ) → n ≤ deskLimit → bodyLength n ≤ 648
 unfolding bodyLength
@@ -38,3 +41,8 @@ position-most h k p≤ k≤ = omega (arith, front-most h p≤, mul-le-mul k≤ (
 pub position-is : (h : Head) (k : ℕ) → 1 ≤ h .desks → h .desks ≤ deskLimit → bodyPosition h k ≡ bodyAt h k
 unfolding bodyPosition
 position-is h k least most = ap (λ (x : ℕ). frontLength h + k * x) (size-in-range (h .desks) least most) ∙ sym (body-start h k)
+
+-- of a book that has its head, that head is read
+pub head-there : (b : List ℕ) → 4 ≤ length b → headIn b ≡ headOf b
+unfolding headIn
+head-there b long = rw (le-ltb _ _ long)

@@ -10,12 +10,26 @@ use number::put2;
 use number::put4;
 ghost use mathlib.Core.Path.{_≡_};
 ghost use Rattle.rules.specs.Layout.{pileNumber, position};
-ghost use Rattle.layout.specs.Positions.{asHead, putHeadAnswer, afterPutHead, putEntryAnswer, afterPutEntry};
+ghost use Rattle.layout.specs.Positions.{asHead, entryNumber, entryPosition, putHeadAnswer, afterPutHead, putEntryAnswer, afterPutEntry};
 
 // Where in an entry the position stands.
 const POSITION: usize = 2;
 
-// The number of pile k, and where the contents say that its body starts. Bytes that are not there count as 0.
+// The pile number of an entry, and where the entry says that the pile's body starts. Bytes that are not there count as 0. Of an entry that is known to have
+// its bytes they are read without a test.
+pub fn entry_number(entry: &[u8]) -> u16
+    ensures { λ r. ⌜ r ≡ entryNumber (now (entry .entry)) ⌝ }
+{
+    get2(entry, 0)
+}
+
+pub fn entry_position(entry: &[u8]) -> u32
+    ensures { λ r. ⌜ r ≡ entryPosition (now (entry .entry)) ⌝ }
+{
+    get4(entry, POSITION)
+}
+
+// The same of entry k of a book.
 pub fn pile_number(book: &[u8], k: u8) -> u16
     ensures { λ r. ⌜ r ≡ pileNumber (now (book .entry)) k ⌝ }
 {

@@ -3,11 +3,11 @@ use crate::lengths::body_length;
 use crate::limits::DESKS;
 use crate::limits::PILES;
 ghost use mathlib.Core.Path.{_≡_};
-ghost use lib.ListN.{getD};
-ghost use Rattle.rules.specs.Layout.{headOf, headFor, sizesInRange, entryAt, frontLength};
+ghost use Prim.Native.Nat.{suc, _*_};
+ghost use Rattle.rules.specs.Layout.{headFor, sizesInRange, entryAt, frontLength};
 ghost use Rattle.rules.specs.Opening.{bufferLength};
 ghost use Rattle.rules.specs.Book.{headSound};
-ghost use Rattle.layout.specs.Positions.{asHead, bodyPosition};
+ghost use Rattle.layout.specs.Positions.{asHead, headIn, bodyPosition};
 
 // The version that is read and written.
 const VERSION: u8 = 1;
@@ -24,25 +24,23 @@ pub struct Head {
     pub fourth: u8,
 }
 
-// A byte of a book; 0 where it is not there.
-fn byte(book: &[u8], at: usize) -> u8
-    ensures { λ r. ⌜ r ≡ getD (now (book .entry)) at 0 ⌝ }
-{
-    if book.len() <= at {
-        return 0;
-    }
-    book[at]
-}
-
-// The head of a book. Bytes that are not there count as 0.
+// The head of a book; all zeros where there are fewer than 4 bytes.
 pub fn head_of(book: &[u8]) -> Head
-    ensures { λ r. ⌜ asHead r ≡ headOf (now (book .entry)) ⌝ }
+    ensures { λ r. ⌜ asHead r ≡ headIn (now (book .entry)) ⌝ }
 {
+    if book.len() < HEAD {
+        return Head {
+            version: 0,
+            desks: 0,
+            piles: 0,
+            fourth: 0,
+        };
+    }
     Head {
-        version: byte(book, 0),
-        desks: byte(book, 1),
-        piles: byte(book, 2),
-        fourth: byte(book, 3),
+        version: book[0],
+        desks: book[1],
+        piles: book[2],
+        fourth: book[3],
     }
 }
 
@@ -106,6 +104,13 @@ pub fn body_at(head: Head, k: u8) -> usize
     ensures { λ r. ⌜ r ≡ bodyPosition (asHead head) k ⌝ }
 {
     front_length(head) + k as usize * body_length(head.desks)
+}
+
+// How many rows stand behind the front: for each pile its opening, and a row of each desk.
+pub fn rows_of(head: Head) -> usize
+    ensures { λ r. ⌜ r ≡ head .piles * suc (head .desks) ⌝ }
+{
+    head.piles as usize * (head.desks as usize + 1)
 }
 
 // What a buffer for a book of n desks and p piles must hold: 0 where there is no such book.

@@ -4,6 +4,9 @@ pub const DESKS: usize = 8;
 
 pub const PILES: usize = 32;
 
+// The highest pile number.
+pub const LAST_NUMBER: u32 = 65_535;
+
 // The most that a top, a tally and the amount of an act may be.
 pub const TOP_LIMIT: u64 = 10_000_000;
 

@@ -1,10 +1,8 @@
 // The contents of a book, filled into a list of entries that the caller lends.
 use book::check;
-use book::layout::ENTRY;
-use book::layout::HEAD;
-use book::layout::POSITION;
-use number::get2;
-use number::get4;
+use layout::contents::pile_number;
+use layout::contents::position;
+use layout::head::head_of;
 ghost use mathlib.Core.Path.{_≡_};
 ghost use Prim.Native.Nat.{_<_};
 ghost use lib.ListN.{length};
@@ -27,7 +25,7 @@ pub(crate) fn contents_answer(book: &[u8], room: usize) -> u8
     if own != 0 {
         return own;
     }
-    if room < book[2] as usize {
+    if room < head_of(book).piles as usize {
         return 8;
     }
     0
@@ -40,10 +38,7 @@ pub(crate) fn entries_filled(book: &[u8], answer: u8) -> usize
     if answer != 0 {
         return 0;
     }
-    if book.len() < 3 {
-        return 0;
-    }
-    book[2] as usize
+    head_of(book).piles as usize
 }
 
 // Entry k of a book's contents.
@@ -52,8 +47,8 @@ pub(crate) fn entry_at(book: &[u8], k: usize) -> Entry
     ensures { λ r. ⌜ r ≡ entryOf (pileNumber (now (book .entry)) k) (position (now (book .entry)) k) ⌝ }
 {
     Entry {
-        number: get2(book, HEAD + k * ENTRY),
-        position: get4(book, POSITION + k * ENTRY),
+        number: pile_number(book, k as u8),
+        position: position(book, k as u8),
     }
 }
 

@@ -2,8 +2,8 @@
 // answer, and some of the lent entries after it: the first two, the last that is filled, and those past the contents.
 use crate::contents::filled;
 use crate::contents::filled_short;
-use book::open;
 use lent::Entry;
+use opening::open;
 use samples::decimal;
 use samples::longest_list;
 use samples::text;

@@ -4,27 +4,25 @@
 mod lines;
 
 use book::check;
-use book::layout::ENTRY;
-use book::layout::HEAD;
-use book::layout::POSITION;
-use book::pile_at;
 use bounds::Bounded;
-use bounds::pile_bounds;
+use bounds::bounds_in;
+use layout::contents::pile_number;
+use layout::contents::position;
+use layout::head::head_of;
+use layout::lengths::LONGEST_BOOK;
 use libc::STDIN_FILENO;
 use lines::book_line;
 use lines::desk_line;
 use lines::pile_line;
 use lines::refused_line;
-use number::get2;
-use number::get4;
-ghost use Prim.Native.Nat.{_≤_, _<_};
-ghost use Rattle.rules.specs.Layout.{deskLimit, pileLimit};
+ghost use Prim.Native.Nat.{_≤_};
+ghost use Rattle.rules.specs.Layout.{deskLimit};
 
 // One byte more than the longest book has: a longer input is refused by its length.
-const BUFFER: usize = 20_933;
+const BUFFER: usize = LONGEST_BOOK + 1;
 
 // The lines of n desks.
-fn list_desks(n: usize, found: Bounded)
+fn list_desks(n: u8, found: Bounded)
     requires { ⌜ n ≤ deskLimit ⌝ }
 {
     let held = found.held;
@@ -32,22 +30,21 @@ fn list_desks(n: usize, found: Bounded)
     let tip = held.tip;
     let least = found.least;
     let most = found.most;
-    let mut i = 0;
+    let mut i: u8 = 0;
     while i < n {
-        desk_line(i, draw[i], tip[i], least[i], most[i]);
+        let desk = i as usize;
+        desk_line(desk, draw[desk], tip[desk], least[desk], most[desk]);
         i += 1;
     }
 }
 
-// The lines of pile k, of a book of n desks: its account is made once, for the tonnage, all rights and all bounds.
-fn list_pile(book: &[u8], n: usize, k: usize)
-    requires { ⌜ (n ≤ deskLimit) × (k < pileLimit) ⌝ }
+// The lines of pile k, of a book of n desks: its account is made once, where its body stands, for the tonnage, all rights and all bounds.
+fn list_pile(book: &[u8], n: u8, k: u8)
+    requires { ⌜ n ≤ deskLimit ⌝ }
 {
-    let number = get2(book, HEAD + k * ENTRY);
-    let pile = pile_at(book, get4(book, POSITION + k * ENTRY));
-    let found = pile_bounds(pile);
+    let found = bounds_in(book, position(book, k) as usize, n);
     let held = found.held;
-    pile_line(number, pile.floor, pile.top, held.tonnage);
+    pile_line(pile_number(book, k), held.floor, held.top, held.tonnage);
     list_desks(n, found);
 }
 
@@ -58,10 +55,11 @@ fn list(book: &[u8]) {
         refused_line(answer);
         return;
     }
-    let n = book[1] as usize;
-    let p = book[2] as usize;
-    book_line(n, p);
-    let mut k = 0;
+    let head = head_of(book);
+    let n = head.desks;
+    let p = head.piles;
+    book_line(n as usize, p as usize);
+    let mut k: u8 = 0;
     while k < p {
         list_pile(book, n, k);
         k += 1;

@@ -36,7 +36,14 @@ pub const BODY: usize = 648;
 
 // Fills a list with the record of the body of n desks at a position; refused with 2 for n, 3 where no body is there, or 8 where the list is shorter than a
 // record. Numbers past the record stay.
-pub fn pad(bytes: &[u8], at: usize, n: usize, out: &mut [u32]) -> u8
+pub fn pad(bytes: &[u8], at: usize, n: u8, out: &mut [u32]) -> u8
+    ensures answer { λ r. ⌜ r ≡ padAnswer n at (length (now (bytes .entry))) (length (now (out .entry))) ⌝ }
+    ensures out { λ _. ⌜ now (out .exit) ≡ afterPad n at (now (bytes .entry)) (now (out .entry)) ⌝ }
+{
+    pad_wide(bytes, at, n as usize, out)
+}
+
+fn pad_wide(bytes: &[u8], at: usize, n: usize, out: &mut [u32]) -> u8
     ensures answer { λ r. ⌜ r ≡ padAnswer n at (length (now (bytes .entry))) (length (now (out .entry))) ⌝ }
     ensures out { λ _. ⌜ now (out .exit) ≡ afterPad n at (now (bytes .entry)) (now (out .entry)) ⌝ }
 {
@@ -99,7 +106,7 @@ pub fn check_record(numbers: &[u32]) -> u8
     }
     let n = numbers[0] as usize;
     let size = 8 * ((n + 1) * (n + 1));
-    let answer = check_bodies(&body[0..size], 0, n, 1);
+    let answer = check_bodies(&body[0..size], 0, n as u8, 1);
     if answer == 5 {
         return 5;
     }

@@ -10,11 +10,15 @@ use borrow.Author.Tests.{lt-ltb, le-ltb}
 use Rattle.rules.specs.Loops.{_or_}
 use Rattle.rules.specs.Refusals.{_when_, _orElse_}
 use Rattle.rules.specs.Pile.{rights, tallyLimit, amountLimit}
-use Rattle.rules.specs.Acts.{Kind, side, tally, receiverWrong, actRefusal}
-use Rattle.rules.specs.Layout.{actColumn}
+use Rattle.rules.specs.Acts.{Kind, spend, give, side, tally, receiverWrong, actRefusal}
+use Rattle.rules.specs.Layout.{deskLimit, actColumn}
 use Rattle.rules.specs.Record.{Record, recordView, recordAnswer, recordDeskAnswer, recordActAnswer, recordAfterAct, rowPlaces}
 use Rattle.rules.proofs.Loops.Refusals.{when-accepted, own-refusal}
-pub use Rattle.rules.proofs.Record.Acts.{tally-at}
+
+-- the tally of an act stands at its column of the desk's row
+pub tally-at : (r : Record) (i : ℕ) (kind : Kind) → tally (recordView r) i kind ≡ getD (r .tallies) (i * rowPlaces + actColumn deskLimit kind) 0
+tally-at r i (spend s) = refl
+tally-at r i (give s j) = refl
 
 module _ (r : Record) (i : ℕ) (kind : Kind) (t : ℕ) where
   pub own-answer : (m : ℕ) → m ≡ recordAnswer r → m ≢ 0 → m ≡ recordActAnswer i kind t r

@@ -3,19 +3,20 @@ use crate::Outcome;
 use crate::PLACES;
 use crate::Pile;
 use crate::ROW;
-use crate::check::audit_of;
-use crate::lines::act_refusal;
-use crate::lines::receiver_wrong;
-use crate::queries::rights_at;
+use crate::check::body_of;
+use act_lines::act_refusal;
+use act_lines::receiver_wrong;
+use audit::rights_in;
 ghost use mathlib.Core.Path.{_≡_};
 ghost use mathlib.Core.Bool.{false};
 ghost use Prim.Native.Nat.{_+_, _*_, _≤_, _<_};
 ghost use lib.ListN.{getD};
-ghost use Rattle.rules.specs.Pile.{tallyLimit};
+ghost use Rattle.rules.specs.Pile.{sideOf, tallyLimit};
 ghost use Rattle.rules.specs.Acts.{Kind, spend, give};
 ghost use Rattle.rules.specs.Layout.{column};
 ghost use Rattle.rules.specs.Record.{recordAnswer, recordActAnswer, recordAfterAct, rowPlaces};
-ghost use Rattle.pile.specs.View.{asRecord, sideOf, Means};
+ghost use Rattle.pile.specs.View.{asRecord};
+ghost use Rattle.pile.specs.Inner.{Means};
 
 // The answer of an act of a desk that needs rights of a side and adds to the tally at a column of the desk's row.
 pub(crate) fn act_answer(p: Pile, side: u8, desk: u8, wrong: bool, column: usize, amount: u32) -> u8
@@ -23,21 +24,21 @@ pub(crate) fn act_answer(p: Pile, side: u8, desk: u8, wrong: bool, column: usize
     ensures answer { λ r. ⌜ ((kind : Kind) → Means (asRecord p) side desk wrong column kind → r ≡ recordActAnswer desk kind amount (asRecord p)) ⌝ }
     ensures room { λ r. ⌜ (r ≡ 0 → (recordAnswer (asRecord p) ≡ 0) × (wrong ≡ false) × (desk < 8) × (getD (p .tallies) (desk * rowPlaces + column) 0 + amount ≤ tallyLimit)) ⌝ }
 {
-    let audit = audit_of(p);
-    let own = audit.answer;
+    let found = body_of(p);
+    let own = found.answer;
     if own != 0 {
         return own;
     }
     if p.n <= desk {
         return 11;
     }
-    let i = desk as usize;
+    let body = found.body;
     let tallies = p.tallies;
     act_refusal(
         wrong,
         amount,
-        rights_at(audit, side, i),
-        tallies[i * ROW + column],
+        rights_in(&body, 0, p.n, side, desk),
+        tallies[desk as usize * ROW + column],
     )
 }
 

@@ -1,31 +1,29 @@
 // A stockpile's record in memory, by value: its constructor, its check, rights, tonnage and the four acts.
 mod acts;
 mod check;
-pub mod lines;
 mod lists;
 mod queries;
 
 use acts::give_side;
 use acts::spend_side;
-use audit::limits;
+use layout::limits;
 use lists::numbers_of;
 use lists::record_of;
 use padding::RECORD;
 use padding::check_record;
 use padding::pad;
-use queries::holdings_of;
 use queries::rights_of;
 use queries::tonnage_of;
 ghost use mathlib.Core.Path.{_≡_};
 ghost use Rattle.rules.specs.Pile.{draw, tip};
 ghost use Rattle.rules.specs.Acts.{spend, give};
-ghost use Rattle.rules.specs.Record.{recordAnswer, bodyRecord, freshAnswer, freshRecord, zeroRecord, recordTonnageReply, recordRightsReply, recordTonnage, recordRights, recordActAnswer, recordAfterAct};
+ghost use Rattle.rules.specs.Record.{recordAnswer, bodyRecord, freshAnswer, freshRecord, zeroRecord, recordTonnageReply, recordRightsReply, recordActAnswer, recordAfterAct};
 ghost use Rattle.padding.specs.Lists.{recordNumbers};
 ghost use Rattle.pile.specs.View.{asRecord};
 ghost use Rattle.pile.specs.Replies.{asReply};
 
 // A record has places for 8 desks: 8 for each kind of shares and gives, so a row of tallies has 18.
-pub const PLACES: usize = padding::PLACES;
+pub const PLACES: usize = limits::DESKS;
 
 pub const SHARES: usize = 2 * PLACES;
 
@@ -54,22 +52,14 @@ pub enum Amount {
     Refused(u8),
 }
 
-// All that a record's check finds: its own refusal or 0, the tonnage, and each desk's draw and tip rights. All is 0 past n, and where the record is refused.
-pub struct Holdings {
-    pub answer: u8,
-    pub tonnage: u32,
-    pub draw: [u32; PLACES],
-    pub tip: [u32; PLACES],
-}
-
 impl Pile {
-    pub const DESKS: u8 = 8;
+    pub const DESKS: u8 = limits::DESKS as u8;
 
     pub const TOP_LIMIT: u32 = limits::TOP_LIMIT as u32;
 
     pub const TALLY_LIMIT: u64 = limits::TALLY_LIMIT;
 
-    pub const AMOUNT_LIMIT: u32 = 1_000;
+    pub const AMOUNT_LIMIT: u32 = limits::AMOUNT_LIMIT;
 
     // A fresh record, with all tallies 0; refused with 2 or 5, and then all zeros.
     pub fn fresh(n: u8, floor: u32, top: u32, shares: [u32; SHARES]) -> Outcome
@@ -107,7 +97,7 @@ impl Pile {
     }
 
     // The record of the body of n desks at a position; where no such body is there, the record of all zeros, which every call on a record refuses with 2.
-    pub fn of_body(bytes: &[u8], at: usize, n: usize) -> Pile
+    pub fn of_body(bytes: &[u8], at: usize, n: u8) -> Pile
         ensures { λ r. ⌜ asRecord r ≡ bodyRecord n (now (bytes .entry)) at ⌝ }
     {
         let mut numbers = [0u32; RECORD];
@@ -148,16 +138,6 @@ impl Pile {
         ensures { λ r. ⌜ asReply r ≡ recordTonnageReply (asRecord self) ⌝ }
     {
         tonnage_of(self)
-    }
-
-    // The tonnage and the rights of all desks, from one check; refused with 2, 5, 6 or 7.
-    pub fn holdings(self) -> Holdings
-        ensures answer { λ r. ⌜ r .answer ≡ recordAnswer (asRecord self) ⌝ }
-        ensures tonnage { λ r. ⌜ r .tonnage ≡ recordTonnage (asRecord self) ⌝ }
-        ensures draw { λ r. ⌜ r .draw ≡ recordRights draw (asRecord self) ⌝ }
-        ensures tip { λ r. ⌜ r .tip ≡ recordRights tip (asRecord self) ⌝ }
-    {
-        holdings_of(self)
     }
 
     // The record after a desk tips; refused with 2, 5, 6, 7, 11, 13, 14 or 15, and then unaltered.

@@ -63,7 +63,7 @@ pub extern "C" fn pit_take(own: &mut [u8], copy: &[u8], desk: u8, changed: &mut 
     ensures book { λ _. ⌜ now (own .exit) ≡ afterTake desk (now (own .entry)) (now (copy .entry)) ⌝ }
     ensures changed { λ _. ⌜ now (changed .exit) ≡ done (takeAnswer desk (now (own .entry)) (now (copy .entry))) (takeReport desk (now (own .entry)) (now (copy .entry))) (now (changed .entry)) ⌝ }
 {
-    let taken = desk::take(own, copy, desk);
+    let taken = take::take(own, copy, desk);
     let refusal = taken.answer;
     if refusal != 0 {
         return refusal;

@@ -1,6 +1,6 @@
 // Opening a book, and checking one.
 use book::check;
-use book::open;
+use opening::open;
 ghost use mathlib.Core.Path.{_≡_};
 ghost use lib.ListN.{length};
 ghost use Rattle.rules.specs.Opening.{openingAnswer, afterOpening};

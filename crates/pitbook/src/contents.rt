@@ -1,26 +1,23 @@
 // The contents of a book, filled into two lists that the caller lends.
 use book::check;
-use book::layout::ENTRY;
-use book::layout::HEAD;
-use book::layout::POSITION;
-use number::get2;
-use number::get4;
+use layout::contents::pile_number;
+use layout::contents::position;
+use layout::head::head_of;
 ghost use mathlib.Core.Path.{_≡_};
 ghost use Rattle.rules.specs.Layout.{pileNumber, position};
 ghost use Rattle.pitbook.specs.Contents.{listsAnswer, filled, afterNumbers, afterPositions, RoomFor};
 
 // The first p entries of the contents: their pile numbers into one list, their positions into the other.
-fn put_entries(book: &[u8], p: usize, numbers: &mut [u32], positions: &mut [u32])
+fn put_entries(book: &[u8], p: u8, numbers: &mut [u32], positions: &mut [u32])
     requires { ⌜ RoomFor p (now numbers) (now positions) ⌝ }
     ensures numbers { λ _. ⌜ now (numbers .exit) ≡ filled p (pileNumber (now (book .entry))) (now (numbers .entry)) ⌝ }
     ensures positions { λ _. ⌜ now (positions .exit) ≡ filled p (position (now (book .entry))) (now (positions .entry)) ⌝ }
 {
-    let mut k = 0;
+    let mut k: u8 = 0;
     while k < p {
-        let number = get2(book, HEAD + k * ENTRY) as u32;
-        let position = get4(book, POSITION + k * ENTRY);
-        numbers[k] = number;
-        positions[k] = position;
+        let place = k as usize;
+        numbers[place] = pile_number(book, k) as u32;
+        positions[place] = position(book, k);
         k += 1;
     }
 }
@@ -36,11 +33,11 @@ pub extern "C" fn pit_contents(book: &[u8], numbers: &mut [u32], positions: &mut
     if own != 0 {
         return own;
     }
-    let p = book[2] as usize;
-    if numbers.len() < p {
+    let p = head_of(book).piles;
+    if numbers.len() < p as usize {
         return 8;
     }
-    if positions.len() < p {
+    if positions.len() < p as usize {
         return 8;
     }
     put_entries(book, p, numbers, positions);

@@ -1,11 +1,11 @@
 // What is asked of a pile: rights, tonnage, what a desk can be sure of, and where its body lies. The result goes into numbers that the caller lends.
-use book::body_size;
 use book::draw_rights;
 use book::seek;
 use book::tip_rights;
 use book::tonnage;
 use bounds::least;
 use bounds::most;
+use layout::lengths::body_length;
 use pile::Amount;
 ghost use mathlib.Core.Path.{_≡_};
 ghost use Rattle.rules.specs.Pile.{draw, tip};
@@ -85,8 +85,8 @@ pub extern "C" fn pit_body(book: &[u8], pile: u16, start: &mut usize, length: &m
     if refusal != 0 {
         return refusal;
     }
-    let at = found.start;
-    let size = body_size(book[1]);
+    let at = found.start as usize;
+    let size = body_length(found.desks);
     *start = at;
     *length = size;
     0

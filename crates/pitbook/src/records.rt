@@ -1,9 +1,9 @@
 // A pile's record as 163 numbers: n, floor, top, 8 draw shares, 8 tip shares, then 8 rows, each tipped, drawn, 8 draw gives, 8 tip gives.
-use book::lists::fetch_numbers;
-use book::lists::store_numbers;
+use store::fetch_numbers;
+use store::store_numbers;
 ghost use mathlib.Core.Path.{_≡_};
 ghost use lib.ListN.{length};
-ghost use Rattle.book.specs.Numbers.{fetchNumbersAnswer, afterFetchNumbers, storeNumbersAnswer, afterStoreNumbers};
+ghost use Rattle.store.specs.Numbers.{fetchNumbersAnswer, afterFetchNumbers, storeNumbersAnswer, afterStoreNumbers};
 
 // Fetches a pile into a lent list; refused with 1 to 7 or 10, and last with 8 where the list is shorter than a record. Numbers past the record stay.
 #[no_mangle]

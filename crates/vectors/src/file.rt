@@ -1,18 +1,18 @@
 // The worked book's file F: opened, read, and with an act on its pile stored; then lengths. Each line has the call and its answer.
 use book::body;
-use book::body_size;
 use book::check;
 use book::draw_rights;
-use book::fetch;
-use book::open;
-use book::store;
 use book::tip_rights;
 use book::tonnage;
+use layout::lengths::body_length;
+use opening::open;
 use pile::Amount;
 use pile::Pile;
 use samples::amount;
 use samples::decimal;
 use samples::text;
+use store::fetch;
+use store::store;
 
 fn answer(label: &[u8], x: u64) {
     text(label);
@@ -110,17 +110,17 @@ fn least() {
 
 // How long a body is: the site manual's page, of 1 to 8 desks, and what lies outside it.
 fn body_sizes() {
-    answer(b"body of 0 desks", body_size(0) as u64);
-    answer(b"body of 1 desk", body_size(1) as u64);
-    answer(b"body of 2 desks", body_size(2) as u64);
-    answer(b"body of 3 desks", body_size(3) as u64);
-    answer(b"body of 4 desks", body_size(4) as u64);
-    answer(b"body of 5 desks", body_size(5) as u64);
-    answer(b"body of 6 desks", body_size(6) as u64);
-    answer(b"body of 7 desks", body_size(7) as u64);
-    answer(b"body of 8 desks", body_size(8) as u64);
-    answer(b"body of 9 desks", body_size(9) as u64);
-    answer(b"body of 255 desks", body_size(255) as u64);
+    answer(b"body of 0 desks", body_length(0) as u64);
+    answer(b"body of 1 desk", body_length(1) as u64);
+    answer(b"body of 2 desks", body_length(2) as u64);
+    answer(b"body of 3 desks", body_length(3) as u64);
+    answer(b"body of 4 desks", body_length(4) as u64);
+    answer(b"body of 5 desks", body_length(5) as u64);
+    answer(b"body of 6 desks", body_length(6) as u64);
+    answer(b"body of 7 desks", body_length(7) as u64);
+    answer(b"body of 8 desks", body_length(8) as u64);
+    answer(b"body of 9 desks", body_length(9) as u64);
+    answer(b"body of 255 desks", body_length(255) as u64);
 }
 
 pub(crate) fn run() {

@@ -1,18 +1,18 @@
 // What each desk can be sure of: the least and the most tonnes of a pile, asked of records and of books, and what is refused.
 use crate::with_tally;
-use book::open;
-use book::store;
 use bounds::least;
 use bounds::most;
 use bounds::pile_bounds;
 use bounds::pile_least;
 use bounds::pile_most;
+use opening::open;
 use pile::Amount;
 use pile::PLACES;
 use pile::Pile;
 use samples::amount;
 use samples::decimal;
 use samples::text;
+use store::store;
 ghost use Prim.Native.Nat.{_<_};
 
 // G has 138 bytes: its body starts at 10, and desk 0's row at 42.

@@ -83,6 +83,9 @@ part-check-bodies-start c = search needs
 part-check-bodies-end : tie.Need-part-check-bodies-end
 part-check-bodies-end c = search (needs, square-small (few (c .before .before)), length-sets)
 
+cast-check-bodies : tie.Need-cast-check-bodies
+cast-check-bodies c = search (needs, few (c .before .before .before))
+
 check-bodies-requires : tie.Need-check-bodies-requires
 check-bodies-requires c κs = search needs
 
@@ -139,6 +142,7 @@ check-record-spec =
     sub-check-bodies
     part-check-bodies-start
     part-check-bodies-end
+    cast-check-bodies
     check-bodies-requires
     returns-2
     opening-rest-zero-requires

@@ -1,7 +1,8 @@
 -- A record is checked as the list of its numbers.
 -- Assumes nothing.
-use mathlib.Core.Path.{_∙_}
+use mathlib.Core.Path.{ap, _∙_}
 use borrow.Author.Needs.{needs}
+use Rattle.padding.specs.Lists.{listAnswer}
 use Rattle.pile.specs.View.{asRecord}
 use Rattle.pile.proofs.Packed.{list-answer}
 use Rattle.pile.proofs.Pile.check.Statement.{statement}
@@ -19,7 +20,8 @@ check-record-requires c κs = search needs
 returns : tie.Need-returns
 returns c =
     let start = c .before .before .before in
-    c .check-record .ensures ∙ list-answer (asRecord (start .args .self)) (search needs) (search needs) (c .before .before .numbers-of .ensures)
+    c .check-record .ensures ∙ ap listAnswer (c .before .before .numbers-of .ensures)
+    ∙ list-answer (asRecord (start .args .self)) (record { shares-long = search needs; tallies-long = search needs })
 
 pub check-spec : {M : Type 1} → statement M
 check-spec =

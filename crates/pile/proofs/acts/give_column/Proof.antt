@@ -3,7 +3,7 @@
 use borrow.Author.Needs.{needs}
 use Rattle.pile.proofs.acts.give_column.Statement.{statement}
 use Rattle.pile.proofs.acts.give_column.Tie as tie
-use Rattle.pile.proofs.Sides.{draw-side, tip-side}
+use Rattle.layout.proofs.Sides.{draw-side, tip-side}
 
 returns : tie.Need-returns
 returns c = search needs

@@ -10,7 +10,8 @@ use borrow.Author.Tests.{ltb-true, not-false}
 use Rattle.rules.specs.Acts.{give}
 use Rattle.rules.proofs.Loops.Logic.{or-left}
 use Rattle.rules.proofs.Record.Facts.{record-facts}
-use Rattle.pile.specs.View.{asRecord, sideOf}
+use Rattle.pile.specs.View.{asRecord}
+use Rattle.rules.specs.Pile.{sideOf}
 
 receiver-wrong-requires : tie.Need-receiver-wrong-requires
 receiver-wrong-requires c κs = search needs

@@ -5,8 +5,8 @@ use Rattle.pile.proofs.acts.spend_side.Statement.{statement}
 use Rattle.pile.proofs.acts.spend_side.Tie as tie
 use mathlib.Core.Path.{refl}
 use Rattle.rules.specs.Acts.{spend}
-use Rattle.pile.specs.View.{sideOf}
-use Rattle.pile.proofs.Sides.{draw-side, tip-side}
+use Rattle.rules.specs.Pile.{sideOf}
+use Rattle.layout.proofs.Sides.{draw-side, tip-side}
 
 enter-requires : tie.Need-enter-requires
 enter-requires c κs = search needs
