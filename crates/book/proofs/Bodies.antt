@@ -11,19 +11,19 @@ use lib.ListN.{length}
 use borrow.Author.Tests.{le-leb, lt-ltb}
 use Rattle.rules.specs.Refusals.{reply}
 use Rattle.rules.specs.Pile.{Side, Pile, rights, tonnage, topLimit}
-use Rattle.rules.specs.Layout.{bodyAt, bodyView, desks, piles, pileOf}
+use Rattle.rules.specs.Layout.{headOf, bodyAt, bodyView, desks, pileOf}
 use Rattle.rules.specs.Book.{place, deskAnswer, rightsReply, tonnageReply}
-use Rattle.rules.specs.Record.{deskStart}
+use Rattle.rules.specs.Record.{deskStart, deskCount}
 use Rattle.rules.proofs.Loops.Logic.{and-both}
 use Rattle.rules.proofs.Loops.Refusals.{reply-refused}
 use Rattle.rules.proofs.Pile.Facts.{PileFacts, facts}
 use Rattle.rules.proofs.Pile.Tonnage.{rights-most, tonnage-within}
-use Rattle.rules.proofs.File.Readable.{BookFacts, book-facts}
+use Rattle.rules.proofs.File.Readable.{BookFacts, book-facts, book-lengths}
 use Rattle.rules.proofs.File.Found.{found-readable, found-desk, found-place, desk-0-fetch}
-use Rattle.rules.proofs.Record.OfBody.{found-start}
+use Rattle.rules.proofs.Record.OfBody.{found-start, found-count}
 use Rattle.audit.specs.Audits.{bodyThere, rightsIn, tonnageIn}
-use Rattle.book.specs.Within.{SoundBody}
-use Rattle.book.proofs.Lengths.{body-within, position-most}
+use Rattle.book.specs.Inner.{SoundBody, SoughtBody}
+use Rattle.rules.proofs.File.Positions.{body-within}
 
 module _ (i : ℕ) (b : List ℕ) {at : ℕ} (sound : SoundBody i b at) where
   abbrev n : ℕ
@@ -58,14 +58,11 @@ module _ (i : ℕ) (b : List ℕ) (number : ℕ) (found : deskAnswer i b number 
   book : BookFacts b
   book = book-facts b (found-readable i b number found)
 
-  begins : start ≡ bodyAt (desks b) (piles b) (place b number)
+  begins : start ≡ bodyAt (headOf b) (place b number)
   begins = is ∙ found-start i b number found
 
   pub start-most : start ≤ 20932
-  start-most =
-      let sizes = book .sizes in
-      rw begins (position-most (desks b) (piles b) (place b number) (sizes .desks-most) (sizes .piles-most)
-      (omega (arith, sizes .piles-most, found-place i b number found)))
+  start-most = omega (arith, begins, book .sized, body-within (headOf b) (place b number) (found-place i b number found), book-lengths b (found-readable i b number found) .1)
 
   pile-is : bodyView (desks b) b start ≡ pileOf b (place b number)
   unfolding pileOf
@@ -74,12 +71,11 @@ module _ (i : ℕ) (b : List ℕ) (number : ℕ) (found : deskAnswer i b number 
   body-sound : SoundBody i b start
   body-sound =
       record {
-        long = book .long;
         desk = found-desk i b number found;
         body =
             record {
               desks-most = book .sizes .desks-most;
-              within = omega (arith, begins, book .sized, body-within (desks b) (piles b) (place b number) (found-place i b number found));
+              within = omega (arith, begins, book .sized, body-within (headOf b) (place b number) (found-place i b number found));
             };
         passes = rw pile-is (book .bodies (place b number) (found-place i b number found));
       }
@@ -88,12 +84,15 @@ module _ (i : ℕ) (b : List ℕ) (number : ℕ) (found : deskAnswer i b number 
   rights-there s = rw (← pile-is) (rights-read i b body-sound s refl)
 
 -- what `seek` tells of a number; a refusal is all that its reply has, whatever stands at the start
-module _ (i : ℕ) (b : List ℕ) (number : ℕ) {m start : ℕ} (told : (m ≡ deskAnswer i b number) × (start ≡ deskStart i b number)) where
+abbrev pub Told : ℕ → List ℕ → ℕ → (m start n : ℕ) → Type 0
+Told i b number m start n = (m ≡ deskAnswer i b number) × (start ≡ deskStart i b number) × (n ≡ deskCount i b number)
+
+module _ (i : ℕ) (b : List ℕ) (number : ℕ) {m start n : ℕ} (told : Told i b number m start n) where
   found : m ≡ 0 → deskAnswer i b number ≡ 0
   found z = sym (told .0) ∙ z
 
-  pub sought-sound : m ≡ 0 → SoundBody i b start
-  sought-sound z = body-sound i b number (found z) (told .1)
+  pub sought-sound : m ≡ 0 → SoughtBody i b n start
+  sought-sound z = record { sound = body-sound i b number (found z) (told .1); count = told .2 ∙ found-count i b number (found z) }
 
   pub sought-reply : (f : Pile → ℕ) → reply m (f (bodyView (desks b) b start)) ≡ reply (deskAnswer i b number) (f (pileOf b (place b number)))
   sought-reply f =
@@ -104,7 +103,7 @@ module _ (i : ℕ) (b : List ℕ) (number : ℕ) {m start : ℕ} (told : (m ≡ 
   unfolding rightsReply
   rights-reply s = sought-reply (λ p. rights (desks b) p s i)
 
-module _ (b : List ℕ) (number : ℕ) {m start : ℕ} (told : (m ≡ deskAnswer 0 b number) × (start ≡ deskStart 0 b number)) where
+module _ (b : List ℕ) (number : ℕ) {m start n : ℕ} (told : Told 0 b number m start n) where
   pub tonnage-reply : reply m (tonnage (desks b) (bodyView (desks b) b start)) ≡ tonnageReply b number
   unfolding tonnageReply
   tonnage-reply = rw (← desk-0-fetch b number) (sought-reply 0 b number told (tonnage (desks b)))

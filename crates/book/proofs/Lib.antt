@@ -1,10 +1,3 @@
-pub mod Rising
-pub mod Passed
-pub mod Lengths
-pub mod GivenShares
-pub mod OpeningRuns
-pub mod BookLines
-pub mod ListLines
+pub mod Lines
 pub mod Replies
-pub mod Opened
 pub mod Bodies

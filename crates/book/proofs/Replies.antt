@@ -1,20 +1,17 @@
--- What a call for a pile of a book hands back, from the answer that found the pile, its place and its record.
+-- What a call for a pile of a book hands back, from the answer that found the pile and its place.
 -- Assumes nothing.
 use Prim.Native.Nat.{ℕ, _<_}
 use mathlib.Core.Path.{_≡_, ap, sym, subst⁻¹, _∙_}
 use mathlib.Core.Logic.{_≢_}
 use mathlib.Core.List.{List, []}
 use Rattle.rules.specs.Numbers.{part}
-use Rattle.rules.specs.Layout.{bodyLength, bodyAt, desks, piles, position, pileOf}
+use Rattle.rules.specs.Layout.{headOf, bodyLength, bodyAt, desks, piles, position}
 use Rattle.rules.specs.Book.{bookAnswer, place, fetchAnswer, deskAnswer, bodyPart, bodyStart}
-use Rattle.rules.specs.Record.{zeroRecord, bodyRecord, fetched, deskStart}
+use Rattle.rules.specs.Record.{deskStart, deskCount}
 use Rattle.rules.proofs.Loops.Refusals.{when-accepted, when-refused}
 use Rattle.rules.proofs.File.Found.{found-readable, found-place, desk-0-fetch}
 use Rattle.rules.proofs.File.Refused.{body-refused}
-use Rattle.rules.proofs.File.Readable.{book-facts}
-use Rattle.rules.proofs.Record.OfBody.{found-start}
-use Rattle.rules.proofs.Record.RoundTrip.{body-in, fetched-readable, fetched-place, fetched-is}
-use Rattle.rules.proofs.Record.AtPosition.{record-there}
+use Rattle.rules.proofs.Record.OfBody.{found-start, found-count}
 
 -- a readable book that has a pile at place k
 pub record HasPlace (b : List ℕ) (k : ℕ) : Type 0 where
@@ -31,6 +28,10 @@ module _ (i : ℕ) (b : List ℕ) (number : ℕ) {m : ℕ} (answer : m ≡ deskA
     unfolding deskStart
     start-nowhere = sym (when-refused _ _ _ not-found)
 
+    pub of-no-desks : 0 ≡ deskCount i b number
+    unfolding deskCount
+    of-no-desks = sym (when-refused _ _ _ not-found)
+
   -- the pile was found
   module _ (z : m ≡ 0) where
     found : deskAnswer i b number ≡ 0
@@ -42,8 +43,11 @@ module _ (i : ℕ) (b : List ℕ) (number : ℕ) {m : ℕ} (answer : m ≡ deskA
       has-place =
           record { readable = found-readable i b number found; below = subst⁻¹ (λ (k : ℕ). k < piles b) at (found-place i b number found) }
 
-      pub start-at : {start : ℕ} → start ≡ bodyAt (desks b) (piles b) k → start ≡ deskStart i b number
-      start-at is = is ∙ ap (bodyAt (desks b) (piles b)) at ∙ sym (found-start i b number found)
+      pub start-at : {start : ℕ} → start ≡ bodyAt (headOf b) k → start ≡ deskStart i b number
+      start-at is = is ∙ ap (bodyAt (headOf b)) at ∙ sym (found-start i b number found)
+
+      pub count-at : desks b ≡ deskCount i b number
+      count-at = sym (found-count i b number found)
 
 module _ (b : List ℕ) (number : ℕ) {m : ℕ} (answer : m ≡ deskAnswer 0 b number) where
   pub fetch-is : m ≡ fetchAnswer b number
@@ -52,10 +56,6 @@ module _ (b : List ℕ) (number : ℕ) {m : ℕ} (answer : m ≡ deskAnswer 0 b 
   module _ (d : m ≢ 0) where
     not-fetched : fetchAnswer b number ≢ 0
     not-fetched z = d (fetch-is ∙ z)
-
-    pub fetched-zero : zeroRecord ≡ fetched b number
-    unfolding fetched
-    fetched-zero = sym (when-refused _ _ _ not-fetched)
 
     pub part-refused : [] ≡ bodyPart b number
     part-refused = sym (body-refused b number not-fetched)
@@ -67,15 +67,6 @@ module _ (b : List ℕ) (number : ℕ) {m : ℕ} (answer : m ≡ deskAnswer 0 b 
   module _ (z : m ≡ 0) where
     fetchable : fetchAnswer b number ≡ 0
     fetchable = sym fetch-is ∙ z
-
-    -- at the start that was found
-    pub fetched-found : {at : ℕ} → at ≡ deskStart 0 b number → bodyRecord (desks b) b at ≡ fetched b number
-    unfolding pileOf
-    fetched-found is =
-        let facts = book-facts b (fetched-readable b number fetchable) in
-        ap (bodyRecord (desks b) b) (is ∙ found-start 0 b number (sym answer ∙ z))
-        ∙ record-there (desks b) b _ (facts .sizes .desks-least) (facts .sizes .desks-most) (body-in b facts _ (fetched-place b number fetchable))
-        ∙ sym (fetched-is b number fetchable)
 
     module _ {k : ℕ} (at : k ≡ place b number) where
       pub part-found : {from size : ℕ} → from ≡ position b k → size ≡ bodyLength (desks b) → part from size b ≡ bodyPart b number

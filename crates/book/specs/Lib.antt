@@ -1,3 +1,1 @@
-pub mod Within
-pub mod Listed
-pub mod Numbers
+pub mod Inner

@@ -12,11 +12,11 @@ ghost use Rattle.rules.specs.Loops.{_and_, every, index};
 ghost use Rattle.rules.specs.Layout.{bodyAt, pileNumber, position};
 ghost use Rattle.rules.specs.Opening.{rising};
 ghost use Rattle.layout.specs.Positions.{asHead};
-ghost use Rattle.book.specs.Inner.{Sized};
+ghost use Rattle.book.specs.Inner.{EntriesWithin, Contents};
 
 // Pile numbers rise from above 0, and each position is where its body starts.
 pub(crate) fn contents_sound(book: &[u8], head: Head) -> bool
-    requires { ⌜ Sized (asHead head) ⌝ }
+    requires { ⌜ Contents (asHead head) (now book) ⌝ }
     ensures { λ r. ⌜ r ≡ rising (head .piles) (pileNumber (now (book .entry))) and every (head .piles) (λ k. eqb (position (now (book .entry)) k) (bodyAt (asHead head) k)) ⌝ }
 {
     let size = body_length(head.desks);
@@ -43,6 +43,7 @@ pub(crate) fn contents_sound(book: &[u8], head: Head) -> bool
 
 // Where a pile number stands in the contents; p where it is absent.
 pub(crate) fn place_of(book: &[u8], p: u8, number: u16) -> u8
+    requires { ⌜ EntriesWithin p (now book) ⌝ }
     ensures { λ r. ⌜ r ≡ index p (λ k. eqb (pileNumber (now (book .entry)) k) number) ⌝ }
 {
     let mut k: u8 = 0;

@@ -18,7 +18,7 @@ ghost use denote.Ref.{ptr};
 ghost use Rattle.rules.specs.Numbers.{partPlace};
 ghost use Rattle.rules.specs.Pile.{draw, tip};
 ghost use Rattle.rules.specs.Book.{bookAnswer, deskAnswer, bodyPart, bodyStart, tonnageReply, rightsReply};
-ghost use Rattle.rules.specs.Record.{deskStart};
+ghost use Rattle.rules.specs.Record.{deskStart, deskCount};
 ghost use Rattle.pile.specs.Replies.{asReply};
 
 // The book's own refusal, 1 to 7, or 0.
@@ -51,10 +51,11 @@ pub struct Sought {
     pub start: u32,
 }
 
-// The body of a number, for a desk; refused with 1 to 7, 11 or 10, and then at 0. Every book has desk 0.
+// The body of a number, for a desk; refused with 1 to 7, 11 or 10, and then at 0 and of no desks. Every book has desk 0.
 pub fn seek(book: &[u8], desk: u8, number: u16) -> Sought
     ensures answer { λ r. ⌜ r .answer ≡ deskAnswer desk (now (book .entry)) number ⌝ }
     ensures start { λ r. ⌜ r .start ≡ deskStart desk (now (book .entry)) number ⌝ }
+    ensures desks { λ r. ⌜ r .desks ≡ deskCount desk (now (book .entry)) number ⌝ }
 {
     let found = find(book, desk, number);
     let refusal = found.answer;

@@ -1,3 +1,4 @@
 pub mod Sizes
 pub mod Sides
 pub mod Puts
+pub mod Entries

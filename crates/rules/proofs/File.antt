@@ -7,6 +7,7 @@ pub mod Front
 pub mod Written
 pub mod Readable
 pub mod Rising
+pub mod Risen
 pub mod LawfulBook
 pub mod Opened
 pub mod Contents

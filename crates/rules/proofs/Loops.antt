@@ -3,6 +3,7 @@
 pub mod Logic
 pub mod Every
 pub mod Refusals
+pub mod PassedSoFar
 pub mod Left
 pub mod Sums
 pub mod Counts

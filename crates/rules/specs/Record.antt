@@ -134,9 +134,12 @@ bodyRecord n b at = cond (between 1 deskLimit n and leb (at + bodyLength n) (len
 unfoldable pub fetched : List ℕ → ℕ → Record
 fetched b number = done (fetchAnswer b number) (recordOf (desks b) (pileOf b (place b number))) zeroRecord
 
--- where a desk's call finds the body of a pile: its start, and 0 where the call is refused
+-- where a desk's call finds the body of a pile, and of how many desks it is; 0 where the call is refused
 unfoldable pub deskStart : ℕ → List ℕ → ℕ → ℕ
 deskStart i b number = done (deskAnswer i b number) (bodyAt (headOf b) (place b number)) 0
+
+unfoldable pub deskCount : ℕ → List ℕ → ℕ → ℕ
+deskCount i b number = done (deskAnswer i b number) (desks b) 0
 
 -- storing a pile: the book's own, 10, the record's own, then 30
 unfoldable pub storeAnswer : List ℕ → ℕ → Record → ℕ

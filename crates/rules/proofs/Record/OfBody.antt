@@ -6,7 +6,7 @@ use mathlib.Core.List.{List}
 use Rattle.rules.specs.Pile.{Pile}
 use Rattle.rules.specs.Layout.{headOf, bodyAt, desks, piles, pileOf}
 use Rattle.rules.specs.Book.{bookAnswer, place, deskAnswer}
-use Rattle.rules.specs.Record.{recordView, recordAnswer, recordOf, deskStart}
+use Rattle.rules.specs.Record.{recordView, recordAnswer, recordOf, deskStart, deskCount}
 use Rattle.rules.proofs.Loops.Refusals.{when-accepted}
 use Rattle.rules.proofs.Pile.Agree.{Agree}
 use Rattle.rules.proofs.File.Readable.{book-facts}
@@ -30,3 +30,7 @@ module _ (i : ℕ) (b : List ℕ) (number : ℕ) (found : deskAnswer i b number 
   pub found-start : deskStart i b number ≡ bodyAt (headOf b) (place b number)
   unfolding deskStart
   found-start = when-accepted _ _ _ found
+
+  pub found-count : deskCount i b number ≡ desks b
+  unfolding deskCount
+  found-count = when-accepted _ _ _ found
