@@ -11,7 +11,7 @@ use borrow.Author.Needs.{needs}
 use borrow.Author.Tests.{ltb-true, ltb-false}
 use Rattle.rules.proofs.Loops.Logic.{or-first, or-second}
 use Rattle.reconcile.specs.Lists.{lengthWrong, reconcileAnswer}
-use Rattle.reconcile.specs.Walk.{Walked}
+use Rattle.reconcile.specs.Inner.{Walked}
 use Rattle.reconcile.proofs.Reconciled.{sized, begun, judged, counts-right, handed-refused, handed-done, length-refused}
 use Rattle.reconcile.proofs.reconcile.Statement.{statement}
 use Rattle.reconcile.proofs.reconcile.Tie as tie
