@@ -1,20 +1,29 @@
 -- The order of relays on bytes: an accepted take is the join, and readable files that meet neither 30 nor 31 have its laws.
 -- Assumes nothing.
-use Prim.Native.Nat.{ℕ}
+use Prim.Native.Nat.{ℕ, suc}
 use mathlib.Core.Path.{_≡_, refl, ap, ap₂, sym, subst, _∙_}
 use mathlib.Core.Logic.{_⊎_, inl, inr}
-use mathlib.Core.Bool.{true, not}
+use mathlib.Core.Bool.{true, false, not}
 use mathlib.Core.List.{List}
-use borrow.Author.Tests.{lt-ltb}
-use Rattle.rules.specs.Layout.{desks, piles, pileNumber}
+use lib.ListN.{length}
+use lib.Dec.{eqb}
+use borrow.Author.Tests.{lt-ltb, eq-eqb}
+use Rattle.history.proofs.Sets.{cases}
+use Rattle.rules.specs.Loops.{_and_}
+use Rattle.rules.specs.Layout.{desks, piles, pileNumber, pileOf}
+use Rattle.rules.specs.Rows.{Comparison, isSplit, isRowLength, places, numbersOf, compared}
 use Rattle.rules.specs.Book.{bookAnswer}
-use Rattle.rules.specs.Take.{ofCopy, sameBook, rowAnswer, takeAnswer, taken, afterTake}
+use Rattle.rules.specs.Take.{rowPart, ofCopy, sameBook, rowAnswer, takeAnswer, taken, afterTake}
+use Rattle.rules.proofs.Loops.Logic.{and-both}
+use Rattle.rules.proofs.Loops.Every.{every-all}
 use Rattle.rules.proofs.Loops.Refusals.{not-met, none-met, first-none, orElse-passes, when-either, orElse-either, first-either, when-accepted}
+use Rattle.rules.proofs.Pile.Agree.{same-opening}
 use Rattle.rules.proofs.File.LawfulBook.{Frame}
+use Rattle.rules.proofs.Take.RowOrder.{itself-alike}
 use Rattle.rules.proofs.Take.InPlace as take
 use Rattle.relays.specs.Join.{Book, join}
 use Rattle.relays.specs.Files.{AllBytes, bookOf, file, joinedFile, joinAnswer}
-use Rattle.relays.specs.FileLaws.{TakeMeetsNone, JoinMeetsNone, TakenIsJoin, TakeIsJoin, TakeReadable, FileJoins, FileJoinLaws, FileLaws}
+use Rattle.relays.specs.FileLaws.{TakeMeetsNone, JoinMeetsNone, JoinsItself, TakenIsJoin, TakeIsJoin, TakeReadable, FileJoins, FileJoinLaws, FileLaws}
 use Rattle.relays.proofs.Join.{order-of-relays}
 use Rattle.relays.proofs.Checked.{Checked, checked-exchanged, checked-itself, checked-join, checked-to-join}
 use Rattle.relays.proofs.Written.{file-readable, same-books, taken-join, join-accepted}
@@ -43,6 +52,27 @@ join-meets-none d own copy known met =
   where
     DoneOr32 : ℕ → Type 0
     DoneOr32 answer = (answer ≡ 0) ⊎ (answer ≡ 32)
+
+-- a readable file joined with itself: its openings are the same, and each row is alike to itself
+pub joins-itself : JoinsItself
+unfolding joinAnswer sameBook compared
+joins-itself b readable =
+    none-met readable
+    (none-met (ap ofCopy readable)
+    (none-met (not-met 30 (ap not same))
+    (first-none (piles b) (λ k l. first-none (desks b) (λ i m. not-met 31 (whole (rowPart b k (suc i))))))))
+  where
+    same : sameBook b b ≡ true
+    same =
+        and-both (eq-eqb (desks b) _ refl)
+        (and-both (eq-eqb (piles b) _ refl)
+        (every-all (piles b)
+        (λ k l. and-both (eq-eqb (pileNumber b k) _ refl) (same-opening (desks b) (pileOf b k) (pileOf b k) refl refl (λ s i m. refl)))))
+
+    whole : (r : List ℕ) → isSplit (compared r r) ≡ false
+    whole r =
+        cases (λ (order : Comparison). isSplit order ≡ false) (isRowLength (length r) and eqb (length r) (length r))
+        (λ _. ap isSplit (itself-alike (places r) (numbersOf r))) (λ _. refl)
 
 -- where joining two files meets nothing, what is taken of them is the file of the join, whatever the taker's desk
 pub taken-is-join : TakenIsJoin

@@ -114,7 +114,7 @@ module _ (n p : ℕ) where
             (picked n (λ r. Whole n r (row c k i)) (ac .no-split k i l m) (bc .no-split k i l m));
       }
 
-  pub related-to-join : {a b c : Book} → Related n p a b → Related n p b c → Related n p a c → Related n p a (join n p b c)
+  related-to-join : {a b c : Book} → Related n p a b → Related n p b c → Related n p a c → Related n p a (join n p b c)
   related-to-join ab bc ac = related-exchanged (related-join bc (related-exchanged ac) (related-exchanged ab))
 
   -- the three laws: a least upper bound is the only one

@@ -93,10 +93,10 @@ module _ (b : List ℕ) (readable : bookAnswer b ≡ 0) where
       subst (λ (x : Body). pileAnswer (desks b) (pileIn (desks b) x) ≡ 0) (sym (body-of-file b k l)) (body-passes (desks b) (pileOf b k) (read .bodies k l))
 
   -- a readable file is that of its book, under any sizes and pile numbers that are equal to its own
-  abbrev pub Held : (n p : ℕ) → (ℕ → ℕ) → Type 0
+  abbrev Held : (n p : ℕ) → (ℕ → ℕ) → Type 0
   Held n p pileNumbers = (file n p pileNumbers (bookOf b) ≡ b) × LawfulBook n p (bookOf b) × PassesCheck n p (bookOf b)
 
-  pub held : AllBytes b → (n p : ℕ) (pileNumbers : ℕ → ℕ) → desks b ≡ n → piles b ≡ p → ((k : ℕ) → k < p → pileNumbers k ≡ pileNumber b k) → Held n p pileNumbers
+  held : AllBytes b → (n p : ℕ) (pileNumbers : ℕ → ℕ) → desks b ≡ n → piles b ≡ p → ((k : ℕ) → k < p → pileNumbers k ≡ pileNumber b k) → Held n p pileNumbers
   unfolding file
   held octets n p pileNumbers n-is p-is numbered =
       subst (λ (n : ℕ). Held n p pileNumbers) n-is

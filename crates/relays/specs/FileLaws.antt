@@ -19,6 +19,10 @@ abbrev pub JoinMeetsNone : Type 0
 JoinMeetsNone =
     (d : ℕ) (own copy : List ℕ) → d < desks own → joinAnswer own copy ≡ 0 → (takeAnswer d own copy ≡ 0) ⊎ (takeAnswer d own copy ≡ 32)
 
+-- A readable file meets nothing with itself, so that the laws say something of two files and of one.
+abbrev pub JoinsItself : Type 0
+JoinsItself = (b : List ℕ) → bookAnswer b ≡ 0 → joinAnswer b b ≡ 0
+
 -- Where joining two files meets nothing, what is taken of them is the file of the join, whatever the taker's desk.
 abbrev pub TakenIsJoin : Type 0
 TakenIsJoin = (own copy : List ℕ) → AllBytes own → AllBytes copy → joinAnswer own copy ≡ 0 → taken own copy ≡ joinedFile own copy
