@@ -19,7 +19,7 @@ use Rattle.relays.specs.Laws.{LawfulBook, OneOpening, NoSplit, Above, Jo
 use Rattle.relays.specs.Files.{AllBytes, joinedFile, joinAnswer}
 use Rattle.relays.specs.FileLaws.{FileJoins, FileJoinLaws, Relayed}
 use Rattle.relays.specs.Plans.{Plan, numbered, relay, carried, AllRelated, takenByPlan, AllJoinable, SameNames}
-use Rattle.relays.proofs.Instances.{repeated, first-tipped, last-tipped, all-tipped, first-beside-last, last-beside-all, first-beside-all, unlimited, less-beside-more}
+use Rattle.relays.proofs.Instances.{repeated, unlimited, less-beside-more, wideBooks, wide-related, own-file, old-copy, new-copy, own-bytes, old-bytes, new-bytes, takes-accepted, twoFiles, two-joinable}
 use Rattle.relays.proofs.Join.{related-itself, order-of-relays}
 use Rattle.relays.proofs.Plans.{any-plan, plans-join}
 use Rattle.relays.proofs.Checked.{checks-carry-over}
@@ -103,12 +103,12 @@ module _ (n p : ℕ) (a b c : Book) (ab : Related n p a b) (bc : Related n p b c
   pub three-pass : PassesCheck n p a → PassesCheck n p b → PassesCheck n p c → PassesCheck n p (join n p (join n p a b) c)
   three-pass passes-a passes-b passes-c = checks-carry-over n p (join n p a b) c two-beside-third (checks-carry-over n p a b ab passes-a passes-b) passes-c
 
--- nine desks and 33 piles: for all such books, and for three that there are
+-- nine desks and 33 piles: for all such books, and for those that there are
 pub nine-desks : (a b c : Book) → Related 9 33 a b → Related 9 33 b c → Related 9 33 a c → JoinLaws 9 33 a b c
 nine-desks = order-of-relays 9 33
 
-pub nine-desks-joined : JoinLaws 9 33 (repeated 33 first-tipped) (repeated 33 last-tipped) (repeated 33 all-tipped)
-nine-desks-joined = order-of-relays 9 33 _ _ _ first-beside-last last-beside-all first-beside-all
+pub nine-desks-joined : JoinLaws 9 33 (wideBooks 0) (wideBooks 1) (wideBooks 0)
+nine-desks-joined = order-of-relays 9 33 _ _ _ (wide-related 0 1) (wide-related 1 0) (wide-related 0 0)
 
 -- numbers over the limits of 5 and 6
 pub limits-not-asked : join 1 1 (repeated 1 (unlimited 2000000000)) (repeated 1 (unlimited 3000000000)) ≡ join 1 1 (repeated 1 (unlimited 3000000000)) (repeated 1 (unlimited 2000000000))
@@ -129,6 +129,9 @@ same-three i = (
   ⊎-elim (⊎-elim (λ e. inl (inr e)) (λ e. inr (inr e))) (λ e. inl (inl e)),
   ⊎-elim (⊎-elim (λ e. inr e) (λ e. inl (inl e))) (⊎-elim (λ e. inl (inl e)) (λ e. inl (inr e))),
 )
+
+pub nine-desks-about : carried 9 33 wideBooks in-turn ≡ carried 9 33 wideBooks about
+nine-desks-about = any-plan 9 33 wideBooks wide-related in-turn about same-three
 
 module _ (n p : ℕ) (books : ℕ → Book) (related : AllRelated n p books) where
   pub in-turn-or-about : join n p (join n p (books 0) (books 1)) (books 2) ≡ join n p (join n p (books 2) (books 0)) (join n p (books 0) (books 1))
@@ -169,6 +172,9 @@ module _ (files : ℕ → List ℕ) (all : AllJoinable files) where
       (joinAnswer x y ≡ 0) × (bookAnswer (taken x y) ≡ 0) × (sameBook (taken x y) x ≡ true)
   planned-readable t u = let j = file-plans-join files all t u in (j .meets-none, j .readable, j .opening)
 
+pub two-files-about : takenByPlan twoFiles in-turn ≡ takenByPlan twoFiles about
+two-files-about = any-file-plan twoFiles two-joinable in-turn about same-three
+
 -- takes of two files
 module _ (own copy : List ℕ) (bytes-own : AllBytes own) (bytes-copy : AllBytes copy) where
   -- two desks that may both take a copy are left with the same book
@@ -205,3 +211,7 @@ module _ (d e : ℕ) (a b c : List ℕ) (bytes-a : AllBytes a) (bytes-b : AllByt
 
   pub same-bytes-left : afterTake d (afterTake d a c) b ≡ afterTake d a (afterTake e b c)
   same-bytes-left = sym (relayed .same-in-turn) ∙ relayed .same-at-once
+
+-- so it is with two copies of which the new one has all of the old one
+pub copies-relayed : Relayed 0 1 own-file new-copy old-copy
+copies-relayed = let (takes-new, takes-old, has-old) = takes-accepted in relays 0 1 own-file new-copy old-copy own-bytes new-bytes old-bytes takes-new takes-old has-old

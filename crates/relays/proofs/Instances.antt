@@ -1,22 +1,25 @@
--- Books that the laws speak of, computed, so that a narrower claim would be noticed: three of nine desks and 33 piles, more than any file has; and two whose numbers are
--- over the limits of 5 and 6, and lawful all the same.
+-- Books and files that the laws speak of, computed, so that a narrower claim would be noticed: two books whose numbers are over the limits of 5 and 6, and lawful all the
+-- same; books of nine desks and 33 piles, more than any file has; and files that desks may take.
 -- Assumes nothing.
-use Prim.Native.Nat.{ℕ, _+_, _<_}
+use Prim.Native.Nat.{ℕ, zero, suc, _+_, _<_}
 use mathlib.Core.Path.{_≡_, refl, ap, ap₂, sym, subst, _∙_}
 use mathlib.Core.Bool.{Bool, true, cond, not}
-use mathlib.Core.List.{[], _∷_, _++_}
+use mathlib.Core.List.{List, [], _∷_, _++_}
 use lib.ListN.{length}
-use lib.Dec.{eqb}
-use borrow.Author.Tests.{eqb-true, not-true}
-use Rattle.rules.specs.Loops.{every, list}
+use lib.Dec.{lit<, eqb, ltb}
+use borrow.Author.Tests.{eqb-true, ltb-true, not-true}
+use Rattle.rules.specs.Loops.{_and_, every, list}
 use Rattle.rules.specs.Layout.{columns}
-use Rattle.rules.specs.Pile.{pileAnswer}
 use Rattle.rules.specs.Rows.{isSplit}
+use Rattle.rules.specs.Take.{takeAnswer}
+use Rattle.rules.proofs.Loops.Logic.{and-left, and-right}
 use Rattle.rules.proofs.Loops.Every.{every-at}
 use Rattle.rules.proofs.Loops.Pieces.{length-list, getD-list}
-use Rattle.rules.proofs.Cases.Table.{open-loops, open-refusals, open-pile, open-rows}
-use Rattle.relays.specs.Join.{Body, Book, deskRow, bodyIn, pileIn, order}
+use Rattle.rules.proofs.Cases.Table.{open-loops, open-refusals, open-numbers, open-pile, open-layout, open-rows, open-opening, open-book, open-take}
+use Rattle.relays.specs.Join.{Body, Book, deskRow, bodyIn, order}
 use Rattle.relays.specs.Laws.{LawfulBody, LawfulBook, Related}
+use Rattle.relays.specs.Files.{AllBytes, file, joinAnswer}
+use Rattle.relays.specs.Plans.{AllRelated, AllJoinable}
 
 -- a book with the same body for each of p piles
 abbrev pub repeated : ℕ → Body → Book
@@ -49,6 +52,22 @@ related-bodies n p x y lawful-x lawful-y opening whole =
     lawful-book : (x : Body) → LawfulBody n x → LawfulBook n p (repeated p x)
     lawful-book x lawful = record { piles = length-list p _; bodies = λ k l. subst (LawfulBody n) (sym (body-repeated p x k l)) lawful }
 
+-- one desk with a tip share of 5,000,000,000 between a floor and a top of 0, which 5 refuses, and a tally over 1,000,000,000, which 6 refuses: no rights are negative
+abbrev pub unlimited : ℕ → Body
+unlimited tipped = record { opening = 0 ∷ 0 ∷ 0 ∷ 5000000000 ∷ []; rows = (tipped ∷ 0 ∷ 0 ∷ 0 ∷ []) ∷ [] }
+
+less-lawful : LawfulBody 1 (unlimited 2000000000)
+unfolding open-loops open-refusals open-pile
+less-lawful = record { opening = refl; desks = refl; rows = long-rows 1 (unlimited 2000000000) refl; none-negative = refl }
+
+more-lawful : LawfulBody 1 (unlimited 3000000000)
+unfolding open-loops open-refusals open-pile
+more-lawful = record { opening = refl; desks = refl; rows = long-rows 1 (unlimited 3000000000) refl; none-negative = refl }
+
+pub less-beside-more : Related 1 1 (repeated 1 (unlimited 2000000000)) (repeated 1 (unlimited 3000000000))
+unfolding open-loops open-rows
+less-beside-more = related-bodies 1 1 (unlimited 2000000000) (unlimited 3000000000) less-lawful more-lawful refl refl
+
 -- n desks; floor 0, top n, to each desk a tip share of 1, which these desks tipped
 abbrev pub wide : ℕ → (ℕ → Bool) → Body
 wide n tipped =
@@ -57,56 +76,91 @@ wide n tipped =
       rows = list n (λ i. cond (tipped i) 1 0 ∷ 0 ∷ list (n + n) (λ c. 0));
     }
 
--- of nine desks the first, or the last, or both
+-- books of nine desks and 33 piles: the first desk tipped, and in all books after the first one the last desk
 abbrev pub first-tipped : Body
 first-tipped = wide 9 (λ i. eqb i 0)
 
 abbrev pub last-tipped : Body
 last-tipped = wide 9 (λ i. eqb i 8)
 
-abbrev pub all-tipped : Body
-all-tipped = wide 9 (λ i. true)
-
 first-lawful : LawfulBody 9 first-tipped
-unfolding open-loops open-pile
+unfolding open-loops open-refusals open-pile
 first-lawful = record { opening = refl; desks = refl; rows = long-rows 9 first-tipped refl; none-negative = refl }
 
 last-lawful : LawfulBody 9 last-tipped
-unfolding open-loops open-pile
+unfolding open-loops open-refusals open-pile
 last-lawful = record { opening = refl; desks = refl; rows = long-rows 9 last-tipped refl; none-negative = refl }
 
-all-lawful : LawfulBody 9 all-tipped
-unfolding open-loops open-pile
-all-lawful = record { opening = refl; desks = refl; rows = long-rows 9 all-tipped refl; none-negative = refl }
+abbrev pub wideBooks : ℕ → Book
+wideBooks zero = repeated 33 first-tipped
+wideBooks (suc i) = repeated 33 last-tipped
 
-pub first-beside-last : Related 9 33 (repeated 33 first-tipped) (repeated 33 last-tipped)
+pub wide-related : AllRelated 9 33 wideBooks
 unfolding open-loops open-rows
-first-beside-last = related-bodies 9 33 first-tipped last-tipped first-lawful last-lawful refl refl
+wide-related zero zero = related-bodies 9 33 first-tipped first-tipped first-lawful first-lawful refl refl
+wide-related zero (suc j) = related-bodies 9 33 first-tipped last-tipped first-lawful last-lawful refl refl
+wide-related (suc i) zero = related-bodies 9 33 last-tipped first-tipped last-lawful first-lawful refl refl
+wide-related (suc i) (suc j) = related-bodies 9 33 last-tipped last-tipped last-lawful last-lawful refl refl
 
-pub last-beside-all : Related 9 33 (repeated 33 last-tipped) (repeated 33 all-tipped)
-unfolding open-loops open-rows
-last-beside-all = related-bodies 9 33 last-tipped all-tipped last-lawful all-lawful refl refl
+-- files of two desks and one pile: floor 0, top 1,000, to each desk a tip share of 500, of which they tipped so much
+abbrev tippedFile : ℕ → ℕ → List ℕ
+tippedFile t u =
+    file 2 1 suc
+    (record { opening = 0 ∷ 1000 ∷ 0 ∷ 0 ∷ 500 ∷ 500 ∷ []; rows = (t ∷ 0 ∷ 0 ∷ 0 ∷ 0 ∷ 0 ∷ []) ∷ (u ∷ 0 ∷ 0 ∷ 0 ∷ 0 ∷ 0 ∷ []) ∷ [] }
+    ∷ [])
 
-pub first-beside-all : Related 9 33 (repeated 33 first-tipped) (repeated 33 all-tipped)
-unfolding open-loops open-rows
-first-beside-all = related-bodies 9 33 first-tipped all-tipped first-lawful all-lawful refl refl
+-- desk 0's own, and two that desk 1 made one after the other
+abbrev pub own-file : List ℕ
+own-file = tippedFile 5 0
 
--- one desk with a tip share of 5,000,000,000 between a floor and a top of 0, which 5 refuses, and a tally over 1,000,000,000, which 6 refuses: no rights are negative
-abbrev pub unlimited : ℕ → Body
-unlimited tipped = record { opening = 0 ∷ 0 ∷ 0 ∷ 5000000000 ∷ []; rows = (tipped ∷ 0 ∷ 0 ∷ 0 ∷ []) ∷ [] }
+abbrev pub old-copy : List ℕ
+old-copy = tippedFile 0 7
 
-pub beyond-limits : pileAnswer 1 (pileIn 1 (unlimited 2000000000)) ≡ 5
-unfolding open-loops open-refusals open-pile
-beyond-limits = refl
+abbrev pub new-copy : List ℕ
+new-copy = tippedFile 0 255
 
-less-lawful : LawfulBody 1 (unlimited 2000000000)
-unfolding open-loops open-pile
-less-lawful = record { opening = refl; desks = refl; rows = long-rows 1 (unlimited 2000000000) refl; none-negative = refl }
+-- bytes, computed
+abbrev areBytes : List ℕ → Bool
+areBytes [] = true
+areBytes (x ∷ b) = ltb x 256 and areBytes b
 
-more-lawful : LawfulBody 1 (unlimited 3000000000)
-unfolding open-loops open-pile
-more-lawful = record { opening = refl; desks = refl; rows = long-rows 1 (unlimited 3000000000) refl; none-negative = refl }
+all-bytes : (b : List ℕ) → areBytes b ≡ true → AllBytes b
+all-bytes [] e k = lit< tt
+all-bytes (x ∷ b) e zero = ltb-true _ _ (and-left _ _ e)
+all-bytes (x ∷ b) e (suc k) = all-bytes b (and-right _ _ e) k
 
-pub less-beside-more : Related 1 1 (repeated 1 (unlimited 2000000000)) (repeated 1 (unlimited 3000000000))
-unfolding open-loops open-rows
-less-beside-more = related-bodies 1 1 (unlimited 2000000000) (unlimited 3000000000) less-lawful more-lawful refl refl
+pub own-bytes : AllBytes own-file
+unfolding file open-loops open-numbers open-layout
+own-bytes = all-bytes own-file refl
+
+pub old-bytes : AllBytes old-copy
+unfolding file open-loops open-numbers open-layout
+old-bytes = all-bytes old-copy refl
+
+pub new-bytes : AllBytes new-copy
+unfolding file open-loops open-numbers open-layout
+new-bytes = all-bytes new-copy refl
+
+-- desk 0 may take either copy, and desk 1 the old one into the new one
+pub takes-accepted : (takeAnswer 0 own-file new-copy ≡ 0) × (takeAnswer 0 own-file old-copy ≡ 0) × (takeAnswer 1 new-copy old-copy ≡ 0)
+unfolding file open-loops open-refusals open-numbers open-pile open-layout open-rows open-opening open-book open-take
+takes-accepted = (refl, refl, refl)
+
+-- and the two may be joined in any plan
+abbrev pub twoFiles : ℕ → List ℕ
+twoFiles zero = own-file
+twoFiles (suc i) = new-copy
+
+pub two-joinable : AllJoinable twoFiles
+unfolding joinAnswer file open-loops open-refusals open-numbers open-pile open-layout open-rows open-opening open-book open-take
+two-joinable = record { bytes = bytes; meet-none = meet-none }
+  where
+    bytes : (i : ℕ) → AllBytes (twoFiles i)
+    bytes zero = own-bytes
+    bytes (suc i) = new-bytes
+
+    meet-none : (i j : ℕ) → joinAnswer (twoFiles i) (twoFiles j) ≡ 0
+    meet-none zero zero = refl
+    meet-none zero (suc j) = refl
+    meet-none (suc i) zero = refl
+    meet-none (suc i) (suc j) = refl

@@ -1,7 +1,7 @@
--- In the order in which to read them: no file cites a later one. Instances: books that the laws speak of. Cases: the laws on three small books, computed. Rows, Lawful and Join: the laws at one row, lawful bodies,
--- and the theorem, of books of any size. Plans: any number of books in any grouping. Checked: books that pass document 01's whole check. Written and Read: the files of such
--- books, and the books of readable files. Files: an accepted take is the join, and the laws on bytes; FilePlans: any number of files. Takes: grouping and order of accepted
--- takes. Consequences: what a weaker claim would not give.
+-- In the order in which to read them: no file cites a later one. Instances: books and files that the laws speak of, computed. Cases: the laws on three small books, computed.
+-- Rows, Lawful and Join: the laws at one row, lawful bodies, and the theorem, of books of any size. Plans: any number of books in any grouping. Checked: books that pass
+-- document 01's whole check. Written and Read: the files of such books, and the books of readable files. Files: an accepted take is the join, and the laws on bytes;
+-- FilePlans: any number of files. Takes: grouping and order of accepted takes. Consequences: what a weaker claim would not give.
 pub mod Instances
 pub mod Cases
 pub mod Rows
