@@ -13,7 +13,7 @@ use Rattle.rules.proofs.Cases.Letters.{F, G}
 use Rattle.rules.proofs.Cases.Table.{Case, case, AllHold, all-hold, open-loops, open-refusals, open-numbers, open-pile, open-layout, open-rows, open-opening, open-book, open-take}
 use Rattle.relays.specs.Join.{Body, Book, bodyIn, pileIn, joinRow, joinBody, join}
 use Rattle.relays.specs.Files.{bookOf, file, joinedFile, joinAnswer}
-use Rattle.relays.proofs.Instances.{repeated, wide, first-tipped, last-tipped}
+use Rattle.relays.proofs.Bodies.{repeated, wide, first-tipped, last-tipped}
 
 -- two desks; floor 10, top 110, draw shares 0 and 0, tip shares 60 and 40
 abbrev pile : List ℕ → List ℕ → Body

@@ -19,7 +19,7 @@ use Rattle.relays.specs.Laws.{LawfulBook, OneOpening, NoSplit, Above, Jo
 use Rattle.relays.specs.Files.{AllBytes, joinedFile, joinAnswer}
 use Rattle.relays.specs.FileLaws.{FileJoins, FileJoinLaws, Relayed}
 use Rattle.relays.specs.Plans.{Plan, numbered, relay, carried, AllRelated, takenByPlan, AllJoinable, SameNames}
-use Rattle.relays.proofs.Instances.{repeated, unlimited, less-beside-more, wideBooks, wide-related, own-file, old-copy, new-copy, own-bytes, old-bytes, new-bytes, takes-accepted, twoFiles, two-joinable}
+use Rattle.relays.proofs.Bodies.{repeated, unlimited}
 use Rattle.relays.proofs.Join.{related-itself, order-of-relays}
 use Rattle.relays.proofs.Plans.{any-plan, plans-join}
 use Rattle.relays.proofs.Checked.{checks-carry-over}
@@ -27,6 +27,7 @@ use Rattle.relays.proofs.Read.{second-readable}
 use Rattle.relays.proofs.Files.{take-meets-none, join-meets-none, joins-itself, taken-is-join, take-is-join, take-readable, file-laws}
 use Rattle.relays.proofs.FilePlans.{any-file-plan, file-plans-join}
 use Rattle.relays.proofs.Takes.{relays}
+use Rattle.relays.proofs.Instances.{less-beside-more, wideBooks, wide-related, own-file, old-copy, new-copy, own-bytes, old-bytes, new-bytes, takes-accepted, twoFiles, two-joinable}
 
 -- the joins that the three laws name, of three books or files a, b and c
 abbrev OfEach : {A : Type 0} → (A → A → A) → (A → A → Type 0) → A → A → A → Type 0

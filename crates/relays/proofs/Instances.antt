@@ -1,15 +1,13 @@
--- Books and files that the laws speak of, computed, so that a narrower claim would be noticed: two books whose numbers are over the limits of 5 and 6, and lawful all the
--- same; books of nine desks and 33 piles, more than any file has; and files that desks may take.
+-- Books and files that the laws speak of, computed, so that a narrower claim would be noticed: two books whose numbers are over the limits of 5 and 6; books of nine desks
+-- and 33 piles; and files that desks may take.
 -- Assumes nothing.
-use Prim.Native.Nat.{ℕ, zero, suc, _+_, _<_}
+use Prim.Native.Nat.{ℕ, zero, suc, _<_}
 use mathlib.Core.Path.{_≡_, refl, ap, ap₂, sym, subst, _∙_}
-use mathlib.Core.Bool.{Bool, true, cond, not}
-use mathlib.Core.List.{List, [], _∷_, _++_}
-use lib.ListN.{length}
-use lib.Dec.{lit<, eqb, ltb}
-use borrow.Author.Tests.{eqb-true, ltb-true, not-true}
-use Rattle.rules.specs.Loops.{_and_, every, list}
-use Rattle.rules.specs.Layout.{columns}
+use mathlib.Core.Bool.{Bool, true, not}
+use mathlib.Core.List.{List, [], _∷_}
+use lib.Dec.{lit<, ltb}
+use borrow.Author.Tests.{ltb-true, not-true}
+use Rattle.rules.specs.Loops.{_and_, every}
 use Rattle.rules.specs.Rows.{isSplit}
 use Rattle.rules.specs.Take.{takeAnswer}
 use Rattle.rules.proofs.Loops.Logic.{and-left, and-right}
@@ -20,21 +18,12 @@ use Rattle.relays.specs.Join.{Body, Book, deskRow, bodyIn, order}
 use Rattle.relays.specs.Laws.{LawfulBody, LawfulBook, Related}
 use Rattle.relays.specs.Files.{AllBytes, file, joinAnswer}
 use Rattle.relays.specs.Plans.{AllRelated, AllJoinable}
-
--- a book with the same body for each of p piles
-abbrev pub repeated : ℕ → Body → Book
-repeated p x = list p (λ k. x)
+use Rattle.relays.proofs.Bodies.{repeated, unlimited, less-lawful, more-lawful, first-tipped, last-tipped, first-lawful, last-lawful}
 
 body-repeated : (p : ℕ) (x : Body) (k : ℕ) → k < p → bodyIn (repeated p x) k ≡ x
 body-repeated p x k l = getD-list p _ _ k l
 
--- what is computed of the rows of two bodies: they are as long as rows of n desks are, and none is split
-abbrev LongRows : ℕ → Body → Type 0
-LongRows n x = every n (λ i. eqb (length (deskRow x i)) (columns n)) ≡ true
-
-long-rows : (n : ℕ) (x : Body) → LongRows n x → (i : ℕ) → i < n → length (deskRow x i) ≡ columns n
-long-rows n x e i l = eqb-true _ _ (every-at n _ e i l)
-
+-- no row of two bodies is split, as it is computed
 abbrev WholeRows : ℕ → Body → Body → Type 0
 WholeRows n x y = every n (λ i. not (isSplit (order n (deskRow x i) (deskRow y i)))) ≡ true
 
@@ -52,45 +41,12 @@ related-bodies n p x y lawful-x lawful-y opening whole =
     lawful-book : (x : Body) → LawfulBody n x → LawfulBook n p (repeated p x)
     lawful-book x lawful = record { piles = length-list p _; bodies = λ k l. subst (LawfulBody n) (sym (body-repeated p x k l)) lawful }
 
--- one desk with a tip share of 5,000,000,000 between a floor and a top of 0, which 5 refuses, and a tally over 1,000,000,000, which 6 refuses: no rights are negative
-abbrev pub unlimited : ℕ → Body
-unlimited tipped = record { opening = 0 ∷ 0 ∷ 0 ∷ 5000000000 ∷ []; rows = (tipped ∷ 0 ∷ 0 ∷ 0 ∷ []) ∷ [] }
-
-less-lawful : LawfulBody 1 (unlimited 2000000000)
-unfolding open-loops open-refusals open-pile
-less-lawful = record { opening = refl; desks = refl; rows = long-rows 1 (unlimited 2000000000) refl; none-negative = refl }
-
-more-lawful : LawfulBody 1 (unlimited 3000000000)
-unfolding open-loops open-refusals open-pile
-more-lawful = record { opening = refl; desks = refl; rows = long-rows 1 (unlimited 3000000000) refl; none-negative = refl }
-
+-- numbers over the limits
 pub less-beside-more : Related 1 1 (repeated 1 (unlimited 2000000000)) (repeated 1 (unlimited 3000000000))
 unfolding open-loops open-rows
 less-beside-more = related-bodies 1 1 (unlimited 2000000000) (unlimited 3000000000) less-lawful more-lawful refl refl
 
--- n desks; floor 0, top n, to each desk a tip share of 1, which these desks tipped
-abbrev pub wide : ℕ → (ℕ → Bool) → Body
-wide n tipped =
-    record {
-      opening = 0 ∷ n ∷ (list n (λ i. 0) ++ list n (λ i. 1));
-      rows = list n (λ i. cond (tipped i) 1 0 ∷ 0 ∷ list (n + n) (λ c. 0));
-    }
-
--- books of nine desks and 33 piles: the first desk tipped, and in all books after the first one the last desk
-abbrev pub first-tipped : Body
-first-tipped = wide 9 (λ i. eqb i 0)
-
-abbrev pub last-tipped : Body
-last-tipped = wide 9 (λ i. eqb i 8)
-
-first-lawful : LawfulBody 9 first-tipped
-unfolding open-loops open-refusals open-pile
-first-lawful = record { opening = refl; desks = refl; rows = long-rows 9 first-tipped refl; none-negative = refl }
-
-last-lawful : LawfulBody 9 last-tipped
-unfolding open-loops open-refusals open-pile
-last-lawful = record { opening = refl; desks = refl; rows = long-rows 9 last-tipped refl; none-negative = refl }
-
+-- nine desks and 33 piles: the first desk tipped, and in all books after the first one the last desk
 abbrev pub wideBooks : ℕ → Book
 wideBooks zero = repeated 33 first-tipped
 wideBooks (suc i) = repeated 33 last-tipped
