@@ -88,7 +88,7 @@ abbrev at-desk : List Ticket
 at-desk = load 2 30 ∷ load 5 31 ∷ load 6 12 ∷ load 9 12 ∷ []
 
 listed : (l : List Ticket) → numbersRise l ≡ true → every (length l) (λ k. leb (numberAt l k) numberLimit) ≡ true → RisingList l
-listed l rises within = record { rises = rises; numbers = λ k inside. leb-true _ _ (every-at (length l) _ within k inside) }
+listed l rises within = record { rises = rises; in-range = λ k inside. leb-true _ _ (every-at (length l) _ within k inside) }
 
 pub shift-counted : counted at-bridge at-desk ≡ reconciled 0 1 1 1 2
 unfolding open-loops sameTicket has shares numbersRise counted

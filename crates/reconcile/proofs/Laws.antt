@@ -24,7 +24,7 @@ use Rattle.reconcile.proofs.Rising.{present, above, shared}
 -- the numbers of a rising list that have a property: as many as there are tickets whose number has it
 along : {l : List Ticket} → RisingList l → (t : ℕ → Bool) → numbersWith (λ x. has l x and t x) ≡ count (length l) (λ k. t (numberAt l k))
 unfolding has
-along {l} listed t = count-along (suc numberLimit) (numberAt l) t (length l) (λ k inside. suc-le-suc (listed .numbers k inside)) (above listed)
+along {l} listed t = count-along (suc numberLimit) (numberAt l) t (length l) (λ k inside. suc-le-suc (listed .in-range k inside)) (above listed)
 
 module _ {l : List Ticket} (listed : RisingList l) (m : List Ticket) where
   pub alike-along : alikeInBoth l m ≡ count (length l) (λ k. has m (numberAt l k) and shares l m (numberAt l k))

@@ -100,4 +100,4 @@ all-rise b accepted =
     ∙ rise-to-end (ticketsOf b) (numbers-within b accepted) (ticketsIn b) (tickets-length b)
 
 pub sound-listed : (b : List ℕ) → Sound b → RisingList (ticketsOf b)
-sound-listed b sound = record { rises = sound .rises; numbers = numbers-within b (sound .tickets-right) }
+sound-listed b sound = record { rises = sound .rises; in-range = numbers-within b (sound .tickets-right) }

@@ -44,12 +44,12 @@ module _ {l : List Ticket} (listed : RisingList l) where
 
   pub at-most-end : (k : ℕ) → nextNumber l k ≤ suc numberLimit
   at-most-end k =
-      by-cases (decLt k (length l)) (λ inside. omega (arith, next-inside l k inside, listed .numbers k inside)) (λ past. omega (arith, next-end l k (omega arith)))
+      by-cases (decLt k (length l)) (λ inside. omega (arith, next-inside l k inside, listed .in-range k inside)) (λ past. omega (arith, next-end l k (omega arith)))
 
   pub next-above : (j k : ℕ) → j < k → j < length l → numberAt l j < nextNumber l k
   next-above j k less inside =
       by-cases (decLt k (length l)) (λ also. omega (arith, next-inside l k also, above j k less also))
-      (λ past. omega (arith, next-end l k (omega arith), listed .numbers j inside))
+      (λ past. omega (arith, next-end l k (omega arith), listed .in-range j inside))
 
   one-place : (j k : ℕ) → j < length l → k < length l → numberAt l j ≡ numberAt l k → j ≡ k
   one-place j k j-in k-in e =

@@ -14,7 +14,7 @@ use Rattle.reconcile.specs.Lists.{ticketsIn, reconcileAnswer, reconciled
 -- "each rising strictly by ticket number": the numbers rise, and each is one that a ticket can have
 pub record RisingList (l : List Ticket) : Type 0 where
   pub rises : numbersRise l ≡ true
-  pub numbers : (k : ℕ) → k < length l → numberAt l k ≤ numberLimit
+  pub in-range : (k : ℕ) → k < length l → numberAt l k ≤ numberLimit
 
 -- Each ticket of the first list is alike, differing or only there.
 abbrev pub FirstAddsUp : Type 0

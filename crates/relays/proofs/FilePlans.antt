@@ -33,7 +33,7 @@ module _ (files : ℕ → List ℕ) (all : AllJoinable files) where
 
   all-checked : (i j : ℕ) → Checked n p (books i) (books j)
   all-checked i j =
-      under-first (λ n p. Checked n p (books i) (books j)) (files 0) (files i) (all .meet-none 0 i) (checked (files i) (files j) (all .meet-none i j) (all .bytes i) (all .bytes j))
+      under-first (λ n p. Checked n p (books i) (books j)) (files 0) (files i) (all .meet-none 0 i) (checked (files i) (files j) (all .meet-none i j) (all .of-bytes i) (all .of-bytes j))
 
   all-related : AllRelated n p books
   all-related i j = all-checked i j .related
@@ -47,10 +47,10 @@ module _ (files : ℕ → List ℕ) (all : AllJoinable files) where
   plans-checked t u = record { related = plans-related n p books all-related t u; first = plan-passes t; second = plan-passes u }
 
   first-frame : Frame n p pileNumbers
-  first-frame = frame (files 0) (files 0) (all .meet-none 0 0) (all .bytes 0) (all .bytes 0)
+  first-frame = frame (files 0) (files 0) (all .meet-none 0 0) (all .of-bytes 0) (all .of-bytes 0)
 
   plan-file : (t : Plan) → takenByPlan files t ≡ file n p pileNumbers (carried n p books t)
-  plan-file (numbered i) = sym (second-file (files 0) (files i) (all .meet-none 0 i) (all .bytes 0) (all .bytes i))
+  plan-file (numbered i) = sym (second-file (files 0) (files i) (all .meet-none 0 i) (all .of-bytes 0) (all .of-bytes i))
   plan-file (relay t u) =
       ap₂ taken (plan-file t) (plan-file u) ∙ taken-join n p pileNumbers first-frame (carried n p books t) (carried n p books u) (plans-checked t u)
 

@@ -109,11 +109,11 @@ twoFiles (suc i) = new-copy
 
 pub two-joinable : AllJoinable twoFiles
 unfolding joinAnswer file open-loops open-refusals open-numbers open-pile open-layout open-rows open-opening open-book open-take
-two-joinable = record { bytes = bytes; meet-none = meet-none }
+two-joinable = record { of-bytes = of-bytes; meet-none = meet-none }
   where
-    bytes : (i : ℕ) → AllBytes (twoFiles i)
-    bytes zero = own-bytes
-    bytes (suc i) = new-bytes
+    of-bytes : (i : ℕ) → AllBytes (twoFiles i)
+    of-bytes zero = own-bytes
+    of-bytes (suc i) = new-bytes
 
     meet-none : (i j : ℕ) → joinAnswer (twoFiles i) (twoFiles j) ≡ 0
     meet-none zero zero = refl

@@ -123,7 +123,7 @@ module _ (a b : List ℕ) (met : joinAnswer a b ≡ 0) where
   unfolding joinAnswer
   same-book = when-not-done _ _ (orElse-first _ _ (orElse-rest _ _ (orElse-rest _ _ met)))
 
-  pub one-book : OneBook a b
+  one-book : OneBook a b
   one-book = one-book-facts a b same-book
 
   pub rows-whole : (k i : ℕ) → k < piles a → i < desks a → isSplit (compared (rowPart a k (suc i)) (rowPart b k (suc i))) ≡ false

@@ -50,7 +50,7 @@ takenByPlan files (relay t u) = taken (takenByPlan files t) (takenByPlan files u
 
 -- readable files that meet neither 30 nor 31 with each other
 pub record AllJoinable (files : ℕ → List ℕ) : Type 0 where
-  pub bytes : (i : ℕ) → AllBytes (files i)
+  pub of-bytes : (i : ℕ) → AllBytes (files i)
   pub meet-none : (i j : ℕ) → joinAnswer (files i) (files j) ≡ 0
 
 -- On bytes: two plans that name the same files leave the same bytes.
