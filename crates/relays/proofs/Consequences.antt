@@ -20,7 +20,7 @@ use Rattle.relays.specs.Files.{AllBytes, joinedFile, joinAnswer}
 use Rattle.relays.specs.FileLaws.{FileJoins, FileJoinLaws, Relayed}
 use Rattle.relays.specs.Plans.{Plan, numbered, relay, carried, AllRelated, takenByPlan, AllJoinable, SameNames}
 use Rattle.relays.proofs.Bodies.{repeated, unlimited}
-use Rattle.relays.proofs.Join.{related-itself, order-of-relays}
+use Rattle.relays.proofs.Join.{above-orders, related-itself, order-of-relays}
 use Rattle.relays.proofs.Plans.{any-plan, plans-join}
 use Rattle.relays.proofs.Checked.{checks-carry-over}
 use Rattle.relays.proofs.Read.{second-readable}
@@ -63,6 +63,21 @@ module _ (n p : ℕ) (a b c : Book) (ab : Related n p a b) (bc : Related n p b c
 
   pub none-made-up : OfEach (join n p) (λ x y. (z : Book) → Above n p z x → Above n p z y → Above n p z (join n p x y)) a b c
   none-made-up = of-each _ (λ x y j. j .least)
+
+  -- so a book that has all of both and nothing that such a book need not have is their join
+  pub only-least-bound : (z : Book) → LawfulBook n p z → OneOpening p z a → Above n p z a → Above n p z b
+      → ((y : Book) → Above n p y a → Above n p y b → Above n p y z) → z ≡ join n p a b
+  only-least-bound z lawful-z opening over-a over-b least =
+      let j = laws .first-second in
+      above-orders n p .antisymmetric z (join n p a b) lawful-z (j .lawful) (λ k l. opening k l ∙ sym (j .opening k l))
+      (j .least z over-a over-b) (least (join n p a b) (j .above-first) (j .above-second))
+
+  -- and what has all of a join has all of both, and all of itself
+  pub goes-on : (z : Book) → Above n p z (join n p a b) → Above n p z z × Above n p z a × Above n p z b
+  goes-on z over =
+      let o = above-orders n p in
+      let j = laws .first-second in
+      (o .reflexive z, o .transitive z _ a over (j .above-first), o .transitive z _ b over (j .above-second))
 
   -- what lawful says of two joined with the third: so many piles, desks and numbers, and no desk's rights negative on any pile
   pub three-lawful : let all = join n p (join n p a b) c in (length all ≡ p) × ((k : ℕ) → k < p → let x = bodyIn all k in

@@ -12,7 +12,7 @@ use Rattle.rules.proofs.Loops.Pieces.{length-list, getD-list, list-cong}
 use Rattle.rules.proofs.Take.Order.{at-least-itself, at-least-transitive}
 use Rattle.rules.proofs.Take.RowOrder.{LeastAbove, itself-alike}
 use Rattle.relays.specs.Join.{Body, Book, deskRow, bodyIn, row, numbers, joinRow, joinBody, join}
-use Rattle.relays.specs.Laws.{LawfulBody, LawfulBook, OneOpening, Above, Joins, Related, OrderOfRelays}
+use Rattle.relays.specs.Laws.{LawfulBody, LawfulBook, OneOpening, Above, AboveOrders, Joins, Related, OrderOfRelays}
 use Rattle.relays.proofs.Rows.{above, Whole, picked, bound, antisymmetric, exchanged, row-idempotent}
 use Rattle.relays.proofs.Lawful.{joined-row, joined-lawful}
 
@@ -140,6 +140,9 @@ module _ (n p : ℕ) where
   idempotent : (a : Book) → LawfulBook n p a → join n p a a ≡ a
   unfolding join joinBody
   idempotent a lawful = same-bodies (λ k l. refl) (λ k i l m. row-idempotent n (row a k i)) ∙ by-bodies a lawful
+
+pub above-orders : AboveOrders
+above-orders n p = record { reflexive = above-reflexive n p; transitive = λ a b c. above-transitive n p; antisymmetric = above-antisymmetric n p }
 
 -- The order of relays, for any number of desks and piles. In the field's words (source document 004): lawful books of one opening with no split between any two of them are
 -- a join-semilattice, of which `Above` is the order and `join` the least upper bound. Its laws come from these facts about the rows of a desk:

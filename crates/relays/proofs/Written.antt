@@ -65,7 +65,7 @@ module _ (n p : ℕ) where
       }
 
   module _ (pileNumbers : ℕ → ℕ) (frame : Frame n p pileNumbers) where
-    abbrev pub at : Book → List ℕ
+    abbrev at : Book → List ℕ
     at a = file n p pileNumbers a
 
     lawful-piles : (a : Book) → PassesCheck n p a → Lawful n p (pilesOf a)

@@ -31,6 +31,15 @@ NoSplit n p a b = (k i : ℕ) → k < p → i < n → isSplit (order n (row a k 
 pub record Above (n p : ℕ) (a b : Book) : Type 0 where
   pub rows : (k i : ℕ) → k < p → i < n → atLeast (columns n) (numbers (row a k i)) (numbers (row b k i)) ≡ true
 
+-- It is a partial order of lawful books of one opening.
+pub record PartialOrder (n p : ℕ) : Type 0 where
+  pub reflexive : (a : Book) → Above n p a a
+  pub transitive : (a b c : Book) → Above n p a b → Above n p b c → Above n p a c
+  pub antisymmetric : (a b : Book) → LawfulBook n p a → LawfulBook n p b → OneOpening p a b → Above n p a b → Above n p b a → a ≡ b
+
+abbrev pub AboveOrders : Type 0
+AboveOrders = (n p : ℕ) → PartialOrder n p
+
 -- One join: it meets no split, what comes out is lawful and of the same opening, and it is the least upper bound of the two.
 pub record Joins (n p : ℕ) (a b : Book) : Type 0 where
   pub no-split : NoSplit n p a b
