@@ -15,8 +15,9 @@ use Rattle.rules.proofs.Cases.Table.{Case, case, AllHold, all-hold, open-loops,
 use Rattle.ticket.specs.declared.Ticket.{Ticket}
 use Rattle.ticket.specs.Packed.{pairRight, packedNumber, packedBytes, digitsRight}
 use Rattle.ticket.specs.Tickets.{numberLimit, asTicket, ticketBytes, ticketOf, fieldAnswer, fieldsAnswer, readAnswer}
-use Rattle.reconcile.specs.Counts.{numberAt, sameTicket, has, shares, rising, Listed}
+use Rattle.reconcile.specs.Counts.{numberAt, sameTicket, has, shares, numbersRise}
 use Rattle.reconcile.specs.Lists.{ticketsOf, lengthWrong, ticketsAnswer, reconcileAnswer, reconciled, counted}
+use Rattle.reconcile.specs.Laws.{RisingList}
 use Rattle.reconcile.proofs.Laws.{alike-along, differing-along, only-along}
 
 -- a load that desk 0 tips onto pile 7, and its bytes
@@ -75,7 +76,7 @@ table =
     ∷ []
 
 pub lists-hold : AllHold table
-unfolding open-loops open-refusals pairRight packedNumber packedBytes digitsRight ticketBytes ticketOf fieldAnswer fieldsAnswer readAnswer rising ticketsOf lengthWrong ticketsAnswer reconcileAnswer
+unfolding open-loops open-refusals pairRight packedNumber packedBytes digitsRight ticketBytes ticketOf fieldAnswer fieldsAnswer readAnswer numbersRise ticketsOf lengthWrong ticketsAnswer reconcileAnswer
 lists-hold = all-hold table refl
 
 -- A shift: of 1 2 5 at the bridge and 2 5 6 9 at the desk, 5 is alike and 2 differs. No computation goes over all numbers that a ticket can have: the
@@ -86,11 +87,11 @@ at-bridge = load 1 30 ∷ load 2 28 ∷ load 5 31 ∷ []
 abbrev at-desk : List Ticket
 at-desk = load 2 30 ∷ load 5 31 ∷ load 6 12 ∷ load 9 12 ∷ []
 
-listed : (l : List Ticket) → rising l ≡ true → every (length l) (λ k. leb (numberAt l k) numberLimit) ≡ true → Listed l
-listed l rises within = record { rises = rises; numbers = λ k inside. leb-true _ _ (every-at (length l) _ within k inside) }
+listed : (l : List Ticket) → numbersRise l ≡ true → every (length l) (λ k. leb (numberAt l k) numberLimit) ≡ true → RisingList l
+listed l rises within = record { rises = rises; in-range = λ k inside. leb-true _ _ (every-at (length l) _ within k inside) }
 
 pub shift-counted : counted at-bridge at-desk ≡ reconciled 0 1 1 1 2
-unfolding open-loops sameTicket has shares rising counted
+unfolding open-loops sameTicket has shares numbersRise counted
 shift-counted =
     let bridge = listed at-bridge refl refl in
     let desk = listed at-desk refl refl in

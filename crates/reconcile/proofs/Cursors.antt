@@ -17,7 +17,7 @@ use Rattle.ticket.specs.declared.Reading.{Reading}
 use Rattle.ticket.specs.Tickets.{ticketLength, numberLimit}
 use Rattle.reconcile.specs.declared.cursor.Cursor.{Cursor}
 use Rattle.reconcile.specs.Lists.{ticketsIn}
-use Rattle.reconcile.specs.Walk.{readAt, cursorAt, Standing}
+use Rattle.reconcile.specs.Inner.{readAt, cursorAt, Standing}
 use Rattle.reconcile.proofs.Readings.{read-below, read-end}
 
 abbrev asCursor : ℕ → ℕ → Bool → Ticket → Cursor

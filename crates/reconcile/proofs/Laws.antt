@@ -15,49 +15,50 @@ use Rattle.rules.proofs.Loops.Counts.{count-cong, count-all, count-none, count-
 use Rattle.ticket.specs.declared.Ticket.{Ticket}
 use Rattle.ticket.specs.Tickets.{numberLimit}
 use Rattle.reconcile.specs.declared.Reconciliation.{Reconciliation}
-use Rattle.reconcile.specs.Counts.{numbersWith, ticketAt, numberAt, has, shares, alike, differing, only, Listed}
+use Rattle.reconcile.specs.Counts.{numbersWith, ticketAt, numberAt, has, shares, alikeInBoth, differingInBoth, onlyInFirst}
 use Rattle.reconcile.specs.Lists.{reconciled, counted}
+use Rattle.reconcile.specs.Laws.{RisingList, FirstAddsUp, SecondAddsUp, AgainstItself, ListsExchanged}
 use Rattle.reconcile.proofs.SameTicket.{same-number, equal-tickets, same-exchanged}
 use Rattle.reconcile.proofs.Rising.{present, above, shared}
 
 -- the numbers of a rising list that have a property: as many as there are tickets whose number has it
-along : {l : List Ticket} → Listed l → (t : ℕ → Bool) → numbersWith (λ x. has l x and t x) ≡ count (length l) (λ k. t (numberAt l k))
+along : {l : List Ticket} → RisingList l → (t : ℕ → Bool) → numbersWith (λ x. has l x and t x) ≡ count (length l) (λ k. t (numberAt l k))
 unfolding has
-along {l} listed t = count-along (suc numberLimit) (numberAt l) t (length l) (λ k inside. suc-le-suc (listed .numbers k inside)) (above listed)
+along {l} listed t = count-along (suc numberLimit) (numberAt l) t (length l) (λ k inside. suc-le-suc (listed .in-range k inside)) (above listed)
 
-module _ {l : List Ticket} (listed : Listed l) (m : List Ticket) where
-  pub alike-along : alike l m ≡ count (length l) (λ k. has m (numberAt l k) and shares l m (numberAt l k))
-  unfolding alike
+module _ {l : List Ticket} (listed : RisingList l) (m : List Ticket) where
+  pub alike-along : alikeInBoth l m ≡ count (length l) (λ k. has m (numberAt l k) and shares l m (numberAt l k))
+  unfolding alikeInBoth
   alike-along = along listed _
 
-  pub differing-along : differing l m ≡ count (length l) (λ k. has m (numberAt l k) and not (shares l m (numberAt l k)))
-  unfolding differing
+  pub differing-along : differingInBoth l m ≡ count (length l) (λ k. has m (numberAt l k) and not (shares l m (numberAt l k)))
+  unfolding differingInBoth
   differing-along = along listed _
 
-  pub only-along : only l m ≡ count (length l) (λ k. not (has m (numberAt l k)))
-  unfolding only
+  pub only-along : onlyInFirst l m ≡ count (length l) (λ k. not (has m (numberAt l k)))
+  unfolding onlyInFirst
   only-along = along listed _
 
-  -- alike, differing and only there: each ticket of a list is one of the three
-  pub first-adds-up : alike l m + differing l m + only l m ≡ length l
-  unfolding _and_
-  first-adds-up =
-      let n = length l in
-      let both : ℕ → Bool = λ k. has m (numberAt l k) in
-      let same : ℕ → Bool = λ k. shares l m (numberAt l k) in
-      ap₂ _+_ (ap₂ _+_ alike-along differing-along) only-along
-      ∙ ap (λ (c : ℕ). c + count n (λ k. not (both k))) (sym (count-apart n both _ _ (λ k. halves (both k) (same k))))
-      ∙ sym (count-apart n (λ k. true) both _ (λ k. whole (both k)))
-      ∙ count-all n
-    where
-      halves : (a b : Bool) → oneIf a ≡ oneIf (a and b) + oneIf (a and not b)
-      halves true true = refl
-      halves true false = refl
-      halves false b = refl
+-- alike, differing and only there: each ticket of a list is one of the three
+pub first-adds-up : FirstAddsUp
+unfolding _and_
+first-adds-up l m listed =
+    let n = length l in
+    let both : ℕ → Bool = λ k. has m (numberAt l k) in
+    let same : ℕ → Bool = λ k. shares l m (numberAt l k) in
+    ap₂ _+_ (ap₂ _+_ (alike-along listed m) (differing-along listed m)) (only-along listed m)
+    ∙ ap (λ (c : ℕ). c + count n (λ k. not (both k))) (sym (count-apart n both _ _ (λ k. halves (both k) (same k))))
+    ∙ sym (count-apart n (λ k. true) both _ (λ k. whole (both k)))
+    ∙ count-all n
+  where
+    halves : (a b : Bool) → oneIf a ≡ oneIf (a and b) + oneIf (a and not b)
+    halves true true = refl
+    halves true false = refl
+    halves false b = refl
 
-      whole : (a : Bool) → 1 ≡ oneIf a + oneIf (not a)
-      whole true = refl
-      whole false = refl
+    whole : (a : Bool) → 1 ≡ oneIf a + oneIf (not a)
+    whole true = refl
+    whole false = refl
 
 -- a ticket that the first list shares with the second, the second shares with the first
 shares-back : (l m : List Ticket) (x : ℕ) → shares l m x ≡ true → shares m l x ≡ true
@@ -72,30 +73,27 @@ shares-back l m x s =
     (and-both (eq-eqb (numberAt m k) x (sym (same-number _ _ alike) ∙ number)) (same-exchanged _ _ ∙ alike)))
 
 -- with the lists exchanged the last two counts change places
-abbrev pub exchanged : Reconciliation → Reconciliation
-exchanged r = reconciled (r .answer) (r .alike) (r .differing) (r .«only_desk») (r .«only_bridge»)
-
-pub lists-exchanged : (l m : List Ticket) → counted m l ≡ exchanged (counted l m)
-unfolding counted alike differing
+pub lists-exchanged : ListsExchanged
+unfolding counted alikeInBoth differingInBoth
 lists-exchanged l m =
     let shared-both : (x : ℕ) → shares m l x ≡ shares l m x = λ x. same _ _ (shares-back m l x) (shares-back l m x) in
-    ap₂ (λ (a d : ℕ). reconciled 0 a d (only m l) (only l m))
+    ap₂ (λ (a d : ℕ). reconciled 0 a d (onlyInFirst m l) (onlyInFirst l m))
     (count-cong (suc numberLimit) (λ x _. and-swap (has m x) (has l x) _ ∙ ap (λ (s : Bool). has l x and has m x and s) (shared-both x)))
     (count-cong (suc numberLimit) (λ x _. and-swap (has m x) (has l x) _ ∙ ap (λ (s : Bool). has l x and has m x and not s) (shared-both x)))
 
 -- so each ticket of the second list is alike, differing or only there
-pub second-adds-up : (l : List Ticket) {m : List Ticket} → Listed m → alike l m + differing l m + only m l ≡ length m
+pub second-adds-up : SecondAddsUp
 unfolding counted
-second-adds-up l {m} listed =
+second-adds-up l m listed =
     let swapped = lists-exchanged m l in
-    ap₂ (λ (a d : ℕ). a + d + only m l) (ap (λ (r : Reconciliation). r .alike) swapped) (ap (λ (r : Reconciliation). r .differing) swapped) ∙ first-adds-up listed l
+    ap₂ (λ (a d : ℕ). a + d + onlyInFirst m l) (ap (λ (r : Reconciliation). r .alike) swapped) (ap (λ (r : Reconciliation). r .differing) swapped) ∙ first-adds-up m l listed
 
 -- a list against itself is all alike
-pub against-itself : {l : List Ticket} → Listed l → counted l l ≡ reconciled 0 (length l) 0 0 0
+pub against-itself : AgainstItself
 unfolding counted _and_
-against-itself {l} listed =
+against-itself l listed =
     let shared-all : (k : ℕ) → k < length l → shares l l (numberAt l k) ≡ true = λ k inside. shared listed listed k k inside inside refl ∙ equal-tickets (ticketAt l k) _ refl in
-    let alone : only l l ≡ 0 = only-along listed l ∙ count-cong (length l) (λ k inside. ap not (present l k inside)) ∙ count-none (length l) in
-    let no-other : differing l l ≡ 0 =
+    let alone : onlyInFirst l l ≡ 0 = only-along listed l ∙ count-cong (length l) (λ k inside. ap not (present l k inside)) ∙ count-none (length l) in
+    let no-other : differingInBoth l l ≡ 0 =
     differing-along listed l ∙ count-cong (length l) (λ k inside. ap₂ (λ (a b : Bool). a and not b) (present l k inside) (shared-all k inside)) ∙ count-none (length l) in
-    rw (alone, no-other) (ap (λ (a : ℕ). reconciled 0 a 0 0 0) (omega (arith, first-adds-up listed l, alone, no-other)))
+    rw (alone, no-other) (ap (λ (a : ℕ). reconciled 0 a 0 0 0) (omega (arith, first-adds-up l l listed, alone, no-other)))

@@ -7,4 +7,5 @@ pub mod Readings
 pub mod Cursors
 pub mod Steps
 pub mod Reconciled
+pub mod Consequences
 pub mod Cases

@@ -12,8 +12,9 @@ use Rattle.rules.specs.Loops.{_and_, oneIf, count}
 use Rattle.rules.proofs.Loops.Logic.{and-left-holds, and-left-fails}
 use Rattle.rules.proofs.Loops.Counts.{count-next}
 use Rattle.ticket.specs.declared.Ticket.{Ticket}
-use Rattle.reconcile.specs.Counts.{ticketAt, numberAt, sameTicket, has, Listed}
-use Rattle.reconcile.specs.Walk.{nextNumber, Passed}
+use Rattle.reconcile.specs.Counts.{ticketAt, numberAt, sameTicket, has}
+use Rattle.reconcile.specs.Laws.{RisingList}
+use Rattle.reconcile.specs.Inner.{nextNumber, PassedTickets}
 use Rattle.reconcile.proofs.Rising.{present, next-inside, above, at-most-end, below-end, next-above, absent, shared}
 
 -- one place more, counted where the test holds there
@@ -28,9 +29,9 @@ count-here {c} k t here so-far e = sym (count-next k t ∙ ap₂ (λ (n : ℕ) (
 one-more : (P : ℕ → Type 0) (k : ℕ) → ((i : ℕ) → i < k → P i) → P k → (i : ℕ) → i < k + 1 → P i
 one-more P k before here i less = ⊎-elim (λ e. rw e here) (before i) (eq-or-lt-of-le (omega arith))
 
-module _ {l m : List Ticket} (listed : Listed l) (listed′ : Listed m) {j k alike differing only : ℕ} (p : Passed l m j k alike differing only) where
+module _ {l m : List Ticket} (listed : RisingList l) (listed′ : RisingList m) {j k alike differing only : ℕ} (p : PassedTickets l m j k alike differing only) where
   -- the own number is below the other's: it is in the own list alone
-  pub pass-own : ((i : ℕ) → i < k → numberAt m i < nextNumber l j) → nextNumber l j < nextNumber m k → Passed l m (j + 1) k alike differing (only + 1)
+  pub pass-own : ((i : ℕ) → i < k → numberAt m i < nextNumber l j) → nextNumber l j < nextNumber m k → PassedTickets l m (j + 1) k alike differing (only + 1)
   pass-own before less =
       let here = next-inside l j (below-end l j (omega (arith, at-most-end listed′ k))) in
       let not-there = absent listed′ k (numberAt l j) (λ i b. omega (arith, here, before i b)) (omega (arith, here)) in
@@ -42,7 +43,7 @@ module _ {l m : List Ticket} (listed : Listed l) (listed′ : Listed m) {j k ali
       }
 
   -- the other's number is below the own: nothing is to be counted here
-  pub pass-other : nextNumber m k < nextNumber l j → Passed l m j (k + 1) alike differing only
+  pub pass-other : nextNumber m k < nextNumber l j → PassedTickets l m j (k + 1) alike differing only
   pass-other less =
       let inside = below-end m k (omega (arith, at-most-end listed j)) in
       record {
@@ -54,7 +55,7 @@ module _ {l m : List Ticket} (listed : Listed l) (listed′ : Listed m) {j k ali
 
   -- both lists have the number
   pub pass-both : j < length l → k < length m → nextNumber l j ≡ nextNumber m k → (same : Bool) → sameTicket (ticketAt l j) (ticketAt m k) ≡ same
-      → Passed l m (j + 1) (k + 1) (cond same (alike + 1) alike) (cond (not same) (differing + 1) differing) only
+      → PassedTickets l m (j + 1) (k + 1) (cond same (alike + 1) alike) (cond (not same) (differing + 1) differing) only
   pass-both inside inside′ e same told =
       let number : numberAt l j ≡ numberAt m k = sym (next-inside l j inside) ∙ e ∙ next-inside m k inside′ in
       let there : has m (numberAt l j) ≡ true = ap (has m) number ∙ present m k inside′ in

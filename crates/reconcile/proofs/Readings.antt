@@ -21,9 +21,10 @@ use Rattle.ticket.specs.declared.Ticket.{Ticket}
 use Rattle.ticket.specs.declared.Reading.{Reading}
 use Rattle.ticket.specs.Tickets.{numberLimit, noTicket, ticketOf, readAnswer, handedBack, reading}
 use Rattle.ticket.proofs.RoundTrip.{number-within}
-use Rattle.reconcile.specs.Counts.{ticketAt, numberAt, rising, Listed}
+use Rattle.reconcile.specs.Counts.{ticketAt, numberAt, numbersRise}
 use Rattle.reconcile.specs.Lists.{ticketsIn, ticketPart, ticketsOf, ticketsAnswer}
-use Rattle.reconcile.specs.Walk.{endTicket, readAt, nextNumber, Sound}
+use Rattle.reconcile.specs.Laws.{RisingList}
+use Rattle.reconcile.specs.Inner.{endTicket, readAt, nextNumber, Sound}
 use Rattle.reconcile.proofs.Rising.{next-inside, next-end}
 
 module _ (b : List ℕ) where
@@ -31,7 +32,7 @@ module _ (b : List ℕ) where
   unfolding ticketsOf
   tickets-length = length-list (ticketsIn b) _
 
-  pub ticket-is : (k : ℕ) → k < ticketsIn b → ticketAt (ticketsOf b) k ≡ ticketOf (ticketPart b k)
+  ticket-is : (k : ℕ) → k < ticketsIn b → ticketAt (ticketsOf b) k ≡ ticketOf (ticketPart b k)
   unfolding ticketsOf
   ticket-is k inside = getD-list (ticketsIn b) _ noTicket k inside
 
@@ -74,15 +75,15 @@ module _ (b : List ℕ) (accepted : ticketsAnswer b ≡ 0) where
       (λ inside. ap (λ (t : Ticket). t .number) (ticket-read k inside) ∙ sym (next-inside (ticketsOf b) k (omega (arith, len))))
       (λ past. ap (λ (r : Reading). r .ticket .number) (read-end b k (omega arith)) ∙ sym (next-end (ticketsOf b) k (omega (arith, len))))
 
-  pub numbers-within : (k : ℕ) → k < length (ticketsOf b) → numberAt (ticketsOf b) k ≤ numberLimit
+  numbers-within : (k : ℕ) → k < length (ticketsOf b) → numberAt (ticketsOf b) k ≤ numberLimit
   numbers-within k inside =
       let here : k < ticketsIn b = omega (arith, tickets-length b) in
       omega (arith, ap (λ (t : Ticket). t .number) (ticket-is b k here), number-within (ticketPart b k) (one-accepted k here))
 
 -- to the end every number rises, so that asking it too tells nothing
 rise-to-end : (l : List Ticket) → ((k : ℕ) → k < length l → numberAt l k ≤ numberLimit)
-    → (n : ℕ) → length l ≡ n → every n (λ k. ltb (nextNumber l k) (nextNumber l (suc k))) ≡ rising l
-unfolding rising every
+    → (n : ℕ) → length l ≡ n → every n (λ k. ltb (nextNumber l k) (nextNumber l (suc k))) ≡ numbersRise l
+unfolding numbersRise every
 rise-to-end l within zero len = let less : length l - 1 ≡ 0 = omega (arith, len) in rw less refl
 rise-to-end l within (suc n) len =
     let less : length l - 1 ≡ n = omega (arith, len) in
@@ -93,10 +94,10 @@ rise-to-end l within (suc n) len =
     ∙ sym (ap (λ (m : ℕ). every m (λ k. ltb (numberAt l k) (numberAt l (suc k)))) less)
 
 pub all-rise : (b : List ℕ) → ticketsAnswer b ≡ 0
-    → every (ticketsIn b) (λ k. ltb (readAt b k .ticket .number) (readAt b (suc k) .ticket .number)) ≡ rising (ticketsOf b)
+    → every (ticketsIn b) (λ k. ltb (readAt b k .ticket .number) (readAt b (suc k) .ticket .number)) ≡ numbersRise (ticketsOf b)
 all-rise b accepted =
     every-cong (ticketsIn b) (λ k _. ap₂ ltb (number-read b accepted k) (number-read b accepted (suc k)))
     ∙ rise-to-end (ticketsOf b) (numbers-within b accepted) (ticketsIn b) (tickets-length b)
 
-pub sound-listed : (b : List ℕ) → Sound b → Listed (ticketsOf b)
-sound-listed b sound = record { rises = sound .rises; numbers = numbers-within b (sound .tickets-right) }
+pub sound-listed : (b : List ℕ) → Sound b → RisingList (ticketsOf b)
+sound-listed b sound = record { rises = sound .rises; in-range = numbers-within b (sound .tickets-right) }

@@ -1,6 +1,6 @@
 -- The walk's start and its end: what is wrong with the two lists, and the four counts.
 -- Assumes nothing.
-use Prim.Native.Nat.{ℕ, _+_, _*_, _/_, _%_, _≤_}
+use Prim.Native.Nat.{ℕ, _*_, _/_, _%_, _≤_}
 use native.Mathlib.Nat.{not-suc-le-zero}
 use native.Mathlib.Decide.{ℕ-discrete}
 use native.Mathlib.Omega.{arith}
@@ -18,9 +18,10 @@ use Rattle.ticket.specs.Tickets.{ticketLength}
 use Rattle.reconcile.specs.declared.Reconciliation.{Reconciliation}
 use Rattle.reconcile.specs.declared.cursor.Cursor.{Cursor}
 use Rattle.reconcile.specs.declared.walk.Walk.{Walk}
-use Rattle.reconcile.specs.Counts.{alike, differing, rising}
+use Rattle.reconcile.specs.Counts.{numbersRise}
 use Rattle.reconcile.specs.Lists.{listLimit, ticketsIn, ticketsOf, lengthWrong, ticketsAnswer, reconcileAnswer, reconciled, counted, reconciliation}
-use Rattle.reconcile.specs.Walk.{cursorAt, Standing, Sound, Side, Walked}
+use Rattle.reconcile.specs.Laws.{CountsAddUp}
+use Rattle.reconcile.specs.Inner.{cursorAt, Standing, Sound, ListWalked, Walked}
 use Rattle.reconcile.proofs.Laws.{alike-along, differing-along, only-along, first-adds-up, second-adds-up}
 use Rattle.reconcile.proofs.Readings.{tickets-length, all-asked, all-rise, sound-listed}
 use Rattle.reconcile.proofs.Steps.{asWalk}
@@ -30,7 +31,7 @@ unfolding lengthWrong
 sized b e = (eqb-true _ _ (not-false _ (or-left _ _ e)), ltb-false _ _ (or-right _ _ e))
 
 -- at the start nothing is passed
-side-begun : {own other : List ℕ} {c d : Cursor} → lengthWrong own ≡ false → c ≡ cursorAt own 0 → Side own other c d 0 0 0
+side-begun : {own other : List ℕ} {c d : Cursor} → lengthWrong own ≡ false → c ≡ cursorAt own 0 → ListWalked own other c d 0 0 0
 unfolding cursorAt count sum
 side-begun {own} {c = c} e is-start =
     let at-first : c .at ≡ 0 = ap (λ (c : Cursor). c .at) is-start in
@@ -58,7 +59,7 @@ module _ {b : List ℕ} {c : Cursor} (s : Standing b c) (end : length b ≤ c .a
   unfolding cursorAt
   end-answer = ap (λ (c : Cursor). c .answer) (s .is-at) ∙ ap (λ (k : ℕ). cursorAt b k .answer) last-place ∙ all-asked b
 
-  end-rises : ticketsAnswer b ≡ 0 → c .rises ≡ rising (ticketsOf b)
+  end-rises : ticketsAnswer b ≡ 0 → c .rises ≡ numbersRise (ticketsOf b)
   unfolding cursorAt
   end-rises right = ap (λ (c : Cursor). c .rises) (s .is-at) ∙ ap (λ (k : ℕ). cursorAt b k .rises) last-place ∙ all-rise b right
 
@@ -112,13 +113,12 @@ answer-told b d =
     (λ refused. ap (λ (r : Reconciliation). r .answer) (when-refused _ _ _ refused))
 
 -- so the laws of the counts are laws of what is handed back: each list's tickets are counted once
-pub counts-add-up : (b d : List ℕ) → reconcileAnswer b d ≡ 0 → let r = reconciliation b d in
-    (r .alike + r .differing + r .«only_bridge» ≡ ticketsIn b) × (r .alike + r .differing + r .«only_desk» ≡ ticketsIn d)
+pub counts-add-up : CountsAddUp
 unfolding reconciliation counted
 counts-add-up b d e =
     let (sound, sound′) = sound-both b d e in
     rw (when-accepted _ (counted (ticketsOf b) (ticketsOf d)) _ e)
-    (first-adds-up (sound-listed b sound) _ ∙ tickets-length b, second-adds-up _ (sound-listed d sound′) ∙ tickets-length d)
+    (first-adds-up _ _ (sound-listed b sound) ∙ tickets-length b, second-adds-up _ _ (sound-listed d sound′) ∙ tickets-length d)
 
 pub length-refused : (b d : List ℕ) → lengthWrong b or lengthWrong d ≡ true → 3 ≡ reconcileAnswer b d
 unfolding reconcileAnswer _when_ _orElse_

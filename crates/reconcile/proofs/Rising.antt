@@ -16,8 +16,9 @@ use Rattle.rules.proofs.Loops.Ranges.{below-or-above}
 use Rattle.rules.proofs.Loops.Counts.{each-above}
 use Rattle.ticket.specs.declared.Ticket.{Ticket}
 use Rattle.ticket.specs.Tickets.{numberLimit}
-use Rattle.reconcile.specs.Counts.{ticketAt, numberAt, sameTicket, has, shares, rising, Listed}
-use Rattle.reconcile.specs.Walk.{nextNumber}
+use Rattle.reconcile.specs.Counts.{ticketAt, numberAt, sameTicket, has, shares, numbersRise}
+use Rattle.reconcile.specs.Laws.{RisingList}
+use Rattle.reconcile.specs.Inner.{nextNumber}
 use Rattle.reconcile.proofs.SameTicket.{same-number}
 
 -- each number of a list is in it
@@ -36,21 +37,21 @@ module _ (l : List Ticket) (k : ℕ) where
   pub below-end : nextNumber l k < suc numberLimit → k < length l
   below-end less = by-cases (decLt k (length l)) (λ inside. inside) (λ past. absurd (omega (arith, next-end (omega arith))))
 
-module _ {l : List Ticket} (listed : Listed l) where
+module _ {l : List Ticket} (listed : RisingList l) where
   pub above : (j k : ℕ) → j < k → k < length l → numberAt l j < numberAt l k
-  unfolding rising
+  unfolding numbersRise
   above = each-above (length l) (numberAt l) (λ k inside. ltb-true _ _ (every-at (length l - 1) _ (listed .rises) k (omega arith)))
 
   pub at-most-end : (k : ℕ) → nextNumber l k ≤ suc numberLimit
   at-most-end k =
-      by-cases (decLt k (length l)) (λ inside. omega (arith, next-inside l k inside, listed .numbers k inside)) (λ past. omega (arith, next-end l k (omega arith)))
+      by-cases (decLt k (length l)) (λ inside. omega (arith, next-inside l k inside, listed .in-range k inside)) (λ past. omega (arith, next-end l k (omega arith)))
 
   pub next-above : (j k : ℕ) → j < k → j < length l → numberAt l j < nextNumber l k
   next-above j k less inside =
       by-cases (decLt k (length l)) (λ also. omega (arith, next-inside l k also, above j k less also))
-      (λ past. omega (arith, next-end l k (omega arith), listed .numbers j inside))
+      (λ past. omega (arith, next-end l k (omega arith), listed .in-range j inside))
 
-  pub one-place : (j k : ℕ) → j < length l → k < length l → numberAt l j ≡ numberAt l k → j ≡ k
+  one-place : (j k : ℕ) → j < length l → k < length l → numberAt l j ≡ numberAt l k → j ≡ k
   one-place j k j-in k-in e =
       by-cases (ℕ-discrete j k) (λ q. q)
       (λ d. absurd (⊎-elim (λ less. omega (arith, above j k less k-in)) (λ less. omega (arith, above k j less j-in)) (below-or-above j k d)))
@@ -69,7 +70,7 @@ module _ {l : List Ticket} (listed : Listed l) where
       by-cases (decLt i k) (λ less. omega (arith, before i less)) (λ past. omega (arith, from-next k i (omega arith) inside))))
 
 -- of a number that two lists have they share the ticket where their two tickets are the same
-module _ {l m : List Ticket} (listed : Listed l) (listed′ : Listed m) where
+module _ {l m : List Ticket} (listed : RisingList l) (listed′ : RisingList m) where
   pub shared : (j k : ℕ) → j < length l → k < length m → numberAt l j ≡ numberAt m k → shares l m (numberAt l j) ≡ sameTicket (ticketAt l j) (ticketAt m k)
   unfolding shares
   shared j k j-in k-in e =

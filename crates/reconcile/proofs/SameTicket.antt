@@ -10,7 +10,7 @@ use Rattle.ticket.specs.declared.Ticket.{Ticket}
 use Rattle.ticket.specs.Tickets.{asTicket}
 use Rattle.reconcile.specs.Counts.{sameTicket}
 
-pub same-tickets : (t u : Ticket) → sameTicket t u ≡ true → t ≡ u
+same-tickets : (t u : Ticket) → sameTicket t u ≡ true → t ≡ u
 unfolding sameTicket
 same-tickets t u e =
     let from-pile = and-right _ _ e in

@@ -14,7 +14,7 @@ use Rattle.reconcile.specs.declared.cursor.Cursor.{Cursor}
 use Rattle.reconcile.specs.declared.walk.Walk.{Walk}
 use Rattle.reconcile.specs.Counts.{ticketAt, sameTicket}
 use Rattle.reconcile.specs.Lists.{listLimit, ticketsOf}
-use Rattle.reconcile.specs.Walk.{cursorAt, nextNumber, Standing, Sound, Side, Walked}
+use Rattle.reconcile.specs.Inner.{cursorAt, nextNumber, Standing, Sound, ListWalked, Walked}
 use Rattle.reconcile.proofs.SameTicket.{same-exchanged}
 use Rattle.reconcile.proofs.Passing.{pass-own, pass-other, pass-both}
 use Rattle.reconcile.proofs.Readings.{tickets-length, ticket-read, number-read, sound-listed}
@@ -37,7 +37,7 @@ module _ {b : List ℕ} {c : Cursor} (s : Standing b c) (sound : Sound b) where
 
 -- a step, as one of the lists has it
 module _ {own other : List ℕ} {c d : Cursor} {alike differing only only′ : ℕ}
-    (mine : Side own other c d alike differing only) (theirs : Side other own d c alike differing only′) where
+    (mine : ListWalked own other c d alike differing only) (theirs : ListWalked other own d c alike differing only′) where
   -- tickets are no more than a list can have
   pub room : c .at < length own → alike + differing + only + 1 ≤ listLimit
   room less = omega (arith, inside (mine .standing) less, mine .adds-up, mine .standing .short)
@@ -51,7 +51,7 @@ module _ {own other : List ℕ} {c d : Cursor} {alike differing only only′ : �
     pub own-inside : c .at < length own
     own-inside = at-a-ticket (mine .standing) less (head-most (theirs .standing))
 
-    pub own-passed : {c′ : Cursor} → c′ ≡ cursorAt own (c .at / ticketLength + 1) → Side own other c′ d alike differing (only + 1)
+    pub own-passed : {c′ : Cursor} → c′ ≡ cursorAt own (c .at / ticketLength + 1) → ListWalked own other c′ d alike differing (only + 1)
     own-passed e =
         let (place, _, standing′) = moved (mine .standing) own-inside e in
         record {
@@ -61,7 +61,7 @@ module _ {own other : List ℕ} {c d : Cursor} {alike differing only only′ : �
         }
 
     -- and so the other list has it
-    pub seen-passed : {c′ : Cursor} → c′ ≡ cursorAt own (c .at / ticketLength + 1) → Side other own d c′ alike differing only′
+    pub seen-passed : {c′ : Cursor} → c′ ≡ cursorAt own (c .at / ticketLength + 1) → ListWalked other own d c′ alike differing only′
     seen-passed e =
         let (place, _, _) = moved (mine .standing) own-inside e in
         record {
@@ -80,7 +80,7 @@ module _ {own other : List ℕ} {c d : Cursor} {alike differing only only′ : �
   both-passed : c .at < length own → d .at < length other → c .head .number ≡ d .head .number
       → (same : Bool) → sameTicket (c .head) (d .head) ≡ same
       → {c′ d′ : Cursor} → c′ ≡ cursorAt own (c .at / ticketLength + 1) → d′ ≡ cursorAt other (d .at / ticketLength + 1)
-      → Side own other c′ d′ (cond same (alike + 1) alike) (cond (not same) (differing + 1) differing) only
+      → ListWalked own other c′ d′ (cond same (alike + 1) alike) (cond (not same) (differing + 1) differing) only
   both-passed inside-own inside-other e same told e₁ e₂ =
       let (place, _, standing′) = moved (mine .standing) inside-own e₁ in
       let (place′, _, _) = moved (theirs .standing) inside-other e₂ in

@@ -1,8 +1,7 @@
 -- Two lists of tickets (4/12): four counts, each the number of ticket numbers with a property.
 -- Assumes nothing.
-use Prim.Native.Nat.{ℕ, suc, _-_, _≤_, _<_}
-use mathlib.Core.Path.{_≡_}
-use mathlib.Core.Bool.{Bool, true, not}
+use Prim.Native.Nat.{ℕ, suc, _-_}
+use mathlib.Core.Bool.{Bool, not}
 use mathlib.Core.List.{List}
 use lib.ListN.{length, getD}
 use lib.Dec.{eqb, ltb}
@@ -37,20 +36,15 @@ unfoldable pub shares : List Ticket → List Ticket → ℕ → Bool
 shares l m x = some (length l) (λ j. some (length m) (λ k. eqb (numberAt l j) x and sameTicket (ticketAt l j) (ticketAt m k)))
 
 -- in both lists with the same ticket; in both with tickets that differ; in the first list only
-unfoldable pub alike : List Ticket → List Ticket → ℕ
-alike l m = numbersWith (λ x. has l x and has m x and shares l m x)
+unfoldable pub alikeInBoth : List Ticket → List Ticket → ℕ
+alikeInBoth l m = numbersWith (λ x. has l x and has m x and shares l m x)
 
-unfoldable pub differing : List Ticket → List Ticket → ℕ
-differing l m = numbersWith (λ x. has l x and has m x and not (shares l m x))
+unfoldable pub differingInBoth : List Ticket → List Ticket → ℕ
+differingInBoth l m = numbersWith (λ x. has l x and has m x and not (shares l m x))
 
-unfoldable pub only : List Ticket → List Ticket → ℕ
-only l m = numbersWith (λ x. has l x and not (has m x))
+unfoldable pub onlyInFirst : List Ticket → List Ticket → ℕ
+onlyInFirst l m = numbersWith (λ x. has l x and not (has m x))
 
 -- each ticket's number is above the one before it
-unfoldable pub rising : List Ticket → Bool
-rising l = every (length l - 1) (λ k. ltb (numberAt l k) (numberAt l (suc k)))
-
--- a list that can be compared: its numbers rise, and a ticket can have each of them
-pub record Listed (l : List Ticket) : Type 0 where
-  pub rises : rising l ≡ true
-  pub numbers : (k : ℕ) → k < length l → numberAt l k ≤ numberLimit
+unfoldable pub numbersRise : List Ticket → Bool
+numbersRise l = every (length l - 1) (λ k. ltb (numberAt l k) (numberAt l (suc k)))

@@ -11,7 +11,7 @@ use Rattle.rules.specs.Numbers.{part}
 use Rattle.ticket.specs.declared.Ticket.{Ticket}
 use Rattle.ticket.specs.Tickets.{ticketLength, ticketOf, readAnswer}
 use Rattle.reconcile.specs.declared.Reconciliation.{Reconciliation}
-use Rattle.reconcile.specs.Counts.{rising, alike, differing, only}
+use Rattle.reconcile.specs.Counts.{numbersRise, alikeInBoth, differingInBoth, onlyInFirst}
 
 abbrev pub listLimit : ℕ
 listLimit = 4096
@@ -39,8 +39,8 @@ reconcileAnswer bridge desk =
     3 when (lengthWrong bridge or lengthWrong desk)
     orElse ticketsAnswer bridge
     orElse ticketsAnswer desk
-    orElse 36 when not (rising (ticketsOf bridge))
-    orElse 37 when not (rising (ticketsOf desk))
+    orElse 36 when not (numbersRise (ticketsOf bridge))
+    orElse 37 when not (numbersRise (ticketsOf desk))
 
 -- what comparing hands back: 0 and the four counts, or a refusal's number beside zeros
 abbrev pub reconciled : (answer alike differing onlyBridge onlyDesk : ℕ) → Reconciliation
@@ -48,7 +48,7 @@ reconciled answer alike differing onlyBridge onlyDesk =
     record { answer = answer; alike = alike; differing = differing; «only_bridge» = onlyBridge; «only_desk» = onlyDesk }
 
 unfoldable pub counted : (bridge desk : List Ticket) → Reconciliation
-counted bridge desk = reconciled 0 (alike bridge desk) (differing bridge desk) (only bridge desk) (only desk bridge)
+counted bridge desk = reconciled 0 (alikeInBoth bridge desk) (differingInBoth bridge desk) (onlyInFirst bridge desk) (onlyInFirst desk bridge)
 
 unfoldable pub reconciliation : (bridge desk : List ℕ) → Reconciliation
 reconciliation bridge desk =

@@ -8,7 +8,7 @@ ghost use lib.Dec.{ltb};
 ghost use Rattle.rules.specs.Loops.{_and_};
 ghost use Rattle.rules.specs.Refusals.{_orElse_};
 ghost use Rattle.ticket.specs.Tickets.{ticketLength};
-ghost use Rattle.reconcile.specs.Walk.{readAt, cursorAt, Standing};
+ghost use Rattle.reconcile.specs.Inner.{readAt, cursorAt, Standing};
 
 pub(crate) struct Cursor {
     // where the head starts

@@ -8,7 +8,7 @@ ghost use Prim.Native.Nat.{_+_, _<_};
 ghost use lib.ListN.{length};
 ghost use Rattle.rules.specs.Refusals.{_when_, _orElse_};
 ghost use Rattle.reconcile.specs.Counts.{sameTicket};
-ghost use Rattle.reconcile.specs.Walk.{Walked};
+ghost use Rattle.reconcile.specs.Inner.{Walked};
 
 pub(crate) struct Walk {
     pub(crate) bridge: Cursor,

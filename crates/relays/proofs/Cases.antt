@@ -1,11 +1,10 @@
 -- The laws on three small books, computed, so that a wrong join is refused by the law that it breaks; and a table of what joins give and of what takes meet.
 -- Assumes nothing.
-use Prim.Native.Nat.{ℕ, suc, _+_}
+use Prim.Native.Nat.{ℕ, suc}
 use mathlib.Core.Path.{_≡_, refl}
-use mathlib.Core.Bool.{Bool, cond}
 use mathlib.Core.List.{List, [], _∷_, _++_}
 use lib.Dec.{eqb}
-use Rattle.rules.specs.Loops.{_or_, list}
+use Rattle.rules.specs.Loops.{_or_}
 use Rattle.rules.specs.Refusals.{first}
 use Rattle.rules.specs.Pile.{pileAnswer}
 use Rattle.rules.specs.Book.{bookAnswer}
@@ -14,6 +13,7 @@ use Rattle.rules.proofs.Cases.Letters.{F, G}
 use Rattle.rules.proofs.Cases.Table.{Case, case, AllHold, all-hold, open-loops, open-refusals, open-numbers, open-pile, open-layout, open-rows, open-opening, open-book, open-take}
 use Rattle.relays.specs.Join.{Body, Book, bodyIn, pileIn, joinRow, joinBody, join}
 use Rattle.relays.specs.Files.{bookOf, file, joinedFile, joinAnswer}
+use Rattle.relays.proofs.Bodies.{repeated, wide, first-tipped, last-tipped}
 
 -- two desks; floor 10, top 110, draw shares 0 and 0, tip shares 60 and 40
 abbrev pile : List ℕ → List ℕ → Body
@@ -77,16 +77,8 @@ mine = file 1 3 suc (alone 10 0 ∷ alone 20 0 ∷ alone 20 5 ∷ [])
 abbrev reloaded : List ℕ
 reloaded = file 1 3 suc (alone 20 0 ∷ alone 10 0 ∷ alone 30 0 ∷ [])
 
--- a book of any size: floor 0, top n, to each desk a tip share of 1, which these desks tipped on every pile
-abbrev wide : ℕ → ℕ → (ℕ → Bool) → Book
-wide n p tipped =
-    list p (λ k. record {
-      opening = 0 ∷ n ∷ (list n (λ i. 0) ++ list n (λ i. 1));
-      rows = list n (λ i. cond (tipped i) 1 0 ∷ 0 ∷ list (n + n) (λ c. 0));
-    })
-
 abbrev wideJoin : Book
-wideJoin = join 9 33 (wide 9 33 (λ i. eqb i 0)) (wide 9 33 (λ i. eqb i 8))
+wideJoin = join 9 33 (repeated 33 first-tipped) (repeated 33 last-tipped)
 
 -- what the three give
 abbrev all : Book
@@ -106,7 +98,7 @@ table =
     (shownBook all ++ shownBook all)
     ∷ case "6/12: nine desks and 33 piles joined, lawful again"
     (shownBook wideJoin ++ first 33 (λ k. pileAnswer 9 (pileIn 9 (bodyIn wideJoin k))) ∷ [])
-    (shownBook (wide 9 33 (λ i. eqb i 0 or eqb i 8)) ++ 0 ∷ [])
+    (shownBook (repeated 33 (wide 9 (λ i. eqb i 0 or eqb i 8))) ++ 0 ∷ [])
     ∷ case "6/12: of two split rows the join has the first book's, so that such books do not commute"
     (shownBook (join 2 1 (pile gave none ∷ []) (pile (tipped 40) none ∷ [])) ++ shownBook (join 2 1 (pile (tipped 40) none ∷ []) (pile gave none ∷ [])))
     (shownBook (pile gave none ∷ pile (tipped 40) none ∷ []))

@@ -11,8 +11,8 @@ use Rattle.rules.specs.Rows.{isSplit}
 use Rattle.rules.proofs.Loops.Pieces.{length-list, getD-list, list-cong}
 use Rattle.rules.proofs.Take.Order.{at-least-itself, at-least-transitive}
 use Rattle.rules.proofs.Take.RowOrder.{LeastAbove, itself-alike}
-use Rattle.relays.specs.Join.{Body, Book, rowIn, bodyIn, row, numbers, order, joinRow, joinBody, join}
-use Rattle.relays.specs.Laws.{LawfulBody, LawfulBook, OneOpening, Above, Joins, Related, OrderOfRelays}
+use Rattle.relays.specs.Join.{Body, Book, deskRow, bodyIn, row, numbers, joinRow, joinBody, join}
+use Rattle.relays.specs.Laws.{LawfulBody, LawfulBook, OneOpening, Above, AboveOrders, Joins, Related, OrderOfRelays}
 use Rattle.relays.proofs.Rows.{above, Whole, picked, bound, antisymmetric, exchanged, row-idempotent}
 use Rattle.relays.proofs.Lawful.{joined-row, joined-lawful}
 
@@ -27,7 +27,7 @@ module _ (n p : ℕ) where
   body-of-join a b k l = getD-list p _ _ k l
 
   pub row-of-join : (a b : Book) (k i : ℕ) → k < p → i < n → row (join n p a b) k i ≡ joinRow n (row a k i) (row b k i)
-  row-of-join a b k i l m = ap (λ (x : Body). rowIn x i) (body-of-join a b k l) ∙ joined-row n _ _ i m
+  row-of-join a b k i l m = ap (λ (x : Body). deskRow x i) (body-of-join a b k l) ∙ joined-row n _ _ i m
 
   opening-of-join : (a b : Book) → OneOpening p (join n p a b) a
   unfolding joinBody
@@ -114,7 +114,7 @@ module _ (n p : ℕ) where
             (picked n (λ r. Whole n r (row c k i)) (ac .no-split k i l m) (bc .no-split k i l m));
       }
 
-  pub related-to-join : {a b c : Book} → Related n p a b → Related n p b c → Related n p a c → Related n p a (join n p b c)
+  related-to-join : {a b c : Book} → Related n p a b → Related n p b c → Related n p a c → Related n p a (join n p b c)
   related-to-join ab bc ac = related-exchanged (related-join bc (related-exchanged ac) (related-exchanged ab))
 
   -- the three laws: a least upper bound is the only one
@@ -141,6 +141,9 @@ module _ (n p : ℕ) where
   unfolding join joinBody
   idempotent a lawful = same-bodies (λ k l. refl) (λ k i l m. row-idempotent n (row a k i)) ∙ by-bodies a lawful
 
+pub above-orders : AboveOrders
+above-orders n p = record { reflexive = above-reflexive n p; transitive = λ a b c. above-transitive n p; antisymmetric = above-antisymmetric n p }
+
 -- The order of relays, for any number of desks and piles. In the field's words (source document 004): lawful books of one opening with no split between any two of them are
 -- a join-semilattice, of which `Above` is the order and `join` the least upper bound. Its laws come from these facts about the rows of a desk:
 -- * commutative and associative: the later or common row is the least upper bound of two rows that are not split (`latest-bound`), at least is transitive
@@ -149,6 +152,7 @@ module _ (n p : ℕ) where
 -- * no join meets a split: a row is alike to itself (`itself-alike`), what splits two rows splits them exchanged (`split-exchanged`), and the joined row, being one of the
 --   two, is split with no third row that neither of them is split with (`picked`);
 -- * lawful: what a desk spent stands in its own row, which is one of the two; what it was given stands in the other desks' rows, which have only grown (`Lawful`).
+-- No number needs a limit for this; that the limits of 5 and 6 carry over where both books have them is `checks-carry-over` in Checked.
 pub order-of-relays : OrderOfRelays
 order-of-relays n p a b c ab bc ac =
     record {

@@ -11,17 +11,18 @@ use Rattle.rules.specs.Rows.{isCopyLater, compared}
 use Rattle.rules.specs.Take.{rowPart, rowAnswer, takeAnswer, afterTake}
 use Rattle.rules.proofs.Loops.Logic.{and-true}
 use Rattle.rules.proofs.Loops.Refusals.{when-done, orElse-rest, when-accepted}
-use Rattle.rules.proofs.Bytes.Numbers.{Octets}
 use Rattle.rules.proofs.File.LawfulBook.{Frame}
 use Rattle.rules.proofs.Take.Order.{at-least-transitive}
 use Rattle.rules.proofs.Take.InPlace.{taker-known, rows-pass}
-use Rattle.relays.specs.Join.{Book, row, order, joinRow, join}
+use Rattle.relays.specs.Join.{Book, row, joinRow, join}
 use Rattle.relays.specs.Laws.{Related}
-use Rattle.relays.specs.Files.{bookOf, file, Relayed}
+use Rattle.relays.specs.Files.{AllBytes, bookOf, file}
+use Rattle.relays.specs.FileLaws.{Relayed, Relays}
 use Rattle.relays.proofs.Rows.{above, picked, bound}
-use Rattle.relays.proofs.Join.{row-of-join, commutative, associative, joins, related-exchanged, related-join, related-to-join}
+use Rattle.relays.proofs.Join.{row-of-join, commutative, associative, joins}
+use Rattle.relays.proofs.Checked.{Checked, checked-exchanged, checked-join, checked-to-join}
 use Rattle.relays.proofs.Written.{taken-join, take-done}
-use Rattle.relays.proofs.Read.{frame, rows-compared, related, under-first, as-files}
+use Rattle.relays.proofs.Read.{frame, rows-compared, checked, under-first, as-files}
 use Rattle.relays.proofs.Files.{take-meets-none}
 
 -- desk d is not behind: on every pile its own row in the first book is at least that in the second
@@ -38,7 +39,7 @@ module _ (n p d : ℕ) (d<n : d < n) where
       subst (above n (row a k d)) (sym (row-of-join n p b c k d l d<n)) (picked n (above n (row a k d)) (ab k l) (ac k l))
 
 -- where a take was accepted its desk was not behind
-accepted-ahead : (d : ℕ) (a b : List ℕ) → Octets a → Octets b → takeAnswer d a b ≡ 0 → Ahead (desks a) (piles a) d (bookOf a) (bookOf b)
+accepted-ahead : (d : ℕ) (a b : List ℕ) → AllBytes a → AllBytes b → takeAnswer d a b ≡ 0 → Ahead (desks a) (piles a) d (bookOf a) (bookOf b)
 unfolding rowAnswer joinRow
 accepted-ahead d a b oa ob e k l =
     let met = take-meets-none d a b e in
@@ -49,14 +50,14 @@ accepted-ahead d a b oa ob e k l =
     let x = row (bookOf a) k d in
     let y = row (bookOf b) k d in
     subst (λ (later : Bool). above (desks a) (cond later y x) y) (ap isCopyLater (rows-compared a b met oa ob k d l known) ∙ not-later)
-    (bound (desks a) x y (related a b met oa ob .no-split k d l known) .copy)
+    (bound (desks a) x y (checked a b met oa ob .related .no-split k d l known) .copy)
 
 module _ (n p : ℕ) (pileNumbers : ℕ → ℕ) (frame : Frame n p pileNumbers) where
   abbrev at : Book → List ℕ
   at a = file n p pileNumbers a
 
   -- a take of desk d that is accepted, and what it leaves
-  module _ (d : ℕ) (d<n : d < n) (a b : Book) (ab : Related n p a b) (ahead : Ahead n p d a b) where
+  module _ (d : ℕ) (d<n : d < n) (a b : Book) (ab : Checked n p a b) (ahead : Ahead n p d a b) where
     accepts : takeAnswer d (at a) (at b) ≡ 0
     accepts = take-done n p pileNumbers frame a b ab d d<n ahead
 
@@ -64,15 +65,15 @@ module _ (n p : ℕ) (pileNumbers : ℕ → ℕ) (frame : Frame n p pileNumbers)
     unfolding afterTake
     leaves = when-accepted _ _ _ accepts ∙ taken-join n p pileNumbers frame a b ab
 
-  written-relays : (d e : ℕ) (a b c : Book) → d < n → e < n → Related n p a b → Related n p b c → Related n p a c
+  written-relays : (d e : ℕ) (a b c : Book) → d < n → e < n → Checked n p a b → Checked n p b c → Checked n p a c
       → Ahead n p d a b → Ahead n p d a c → Ahead n p e b c → Relayed d e (at a) (at b) (at c)
   written-relays d e a b c d<n e<n ab bc ac b-behind c-behind c-behind-at-e =
-      let cb = related-exchanged n p bc in
-      let two-c = related-join n p ab bc ac in
-      let two-b = related-join n p ac cb ab in
-      let a-two = related-to-join n p ab bc ac in
-      let ahead-c = ahead-joined n p d d<n a b c ab c-behind in
-      let ahead-b = ahead-joined n p d d<n a c b ac b-behind in
+      let cb = checked-exchanged n p bc in
+      let two-c = checked-join n p ab bc ac in
+      let two-b = checked-join n p ac cb ab in
+      let a-two = checked-to-join n p ab bc ac in
+      let ahead-c = ahead-joined n p d d<n a b c (ab .related) c-behind in
+      let ahead-b = ahead-joined n p d d<n a c b (ac .related) b-behind in
       let ahead-two = ahead-of-join n p d d<n a b c b-behind c-behind in
       let after-b = leaves d d<n a b ab b-behind in
       let after-c = leaves d d<n a c ac c-behind in
@@ -89,13 +90,15 @@ module _ (n p : ℕ) (pileNumbers : ℕ → ℕ) (frame : Frame n p pileNumbers)
         both-at-once = subst (λ (x : List ℕ). takeAnswer d (at a) x ≡ 0) (sym at-e) (accepts d d<n a (join n p b c) a-two ahead-two);
         same-in-turn =
             b-then-c
-            ∙ ap at (associative n p a b c ab bc ac ∙ ap (join n p a) (commutative n p b c bc) ∙ sym (associative n p a c b ac cb ab))
+            ∙ ap at (associative n p a b c (ab .related) (bc .related) (ac .related)
+            ∙ ap (join n p a) (commutative n p b c (bc .related))
+            ∙ sym (associative n p a c b (ac .related) (cb .related) (ab .related)))
             ∙ sym c-then-b;
-        same-at-once = b-then-c ∙ ap at (associative n p a b c ab bc ac) ∙ sym at-once;
+        same-at-once = b-then-c ∙ ap at (associative n p a b c (ab .related) (bc .related) (ac .related)) ∙ sym at-once;
       }
 
 -- Where desk d's takes of b and of c are accepted, and desk e's take of c into b, their grouping and order are of no consequence to desk d.
-pub relays : (d e : ℕ) (a b c : List ℕ) → Octets a → Octets b → Octets c → takeAnswer d a b ≡ 0 → takeAnswer d a c ≡ 0 → takeAnswer e b c ≡ 0 → Relayed d e a b c
+pub relays : Relays
 relays d e a b c oa ob oc ab ac bc =
     let ab-met = take-meets-none d a b ab in
     let ac-met = take-meets-none d a c ac in
@@ -103,5 +106,5 @@ relays d e a b c oa ob oc ab ac bc =
     as-files (Relayed d e) a b c oa ob oc ab-met ac-met
     (written-relays (desks a) (piles a) (pileNumber a) (frame a b ab-met oa ob) d e (bookOf a) (bookOf b) (bookOf c) (taker-known d a b ab)
     (under-first (λ n p. e < n) a b ab-met (taker-known e b c bc))
-    (related a b ab-met oa ob) (under-first (λ n p. Related n p (bookOf b) (bookOf c)) a b ab-met (related b c bc-met ob oc)) (related a c ac-met oa oc)
+    (checked a b ab-met oa ob) (under-first (λ n p. Checked n p (bookOf b) (bookOf c)) a b ab-met (checked b c bc-met ob oc)) (checked a c ac-met oa oc)
     (accepted-ahead d a b oa ob ab) (accepted-ahead d a c oa oc ac) (under-first (λ n p. Ahead n p e (bookOf b) (bookOf c)) a b ab-met (accepted-ahead e b c ob oc bc)))

@@ -1,4 +1,4 @@
--- Files of related books: a take of one another meets neither 30 nor 31, and what it leaves is the file of the join.
+-- Files of related books that pass the check: a take of one another meets neither 30 nor 31, and what it leaves is the file of the join.
 -- Assumes nothing.
 use Prim.Native.Nat.{ℕ, suc, _<_, suc-le-suc}
 use native.Mathlib.Omega.{arith}
@@ -22,11 +22,12 @@ use Rattle.rules.proofs.Take.Compared.{compared-rows}
 use Rattle.rules.proofs.Take.RowBytes as bytes
 use Rattle.rules.proofs.Take.MergeRow.{RowLe}
 use Rattle.rules.proofs.Take.Merge.{Merged, same-book, take-accepted, taken-book}
-use Rattle.relays.specs.Join.{Body, Book, bodyIn, row, numbers, cell, pileIn, order, join}
-use Rattle.relays.specs.Laws.{LawfulBook, Related}
+use Rattle.relays.specs.Join.{Book, bodyIn, row, numbers, cell, pileIn, order, join}
+use Rattle.relays.specs.Laws.{Related, PassesCheck}
 use Rattle.relays.specs.Files.{file, joinAnswer}
 use Rattle.relays.proofs.Rows.{above, picked}
 use Rattle.relays.proofs.Join.{row-of-join, joins}
+use Rattle.relays.proofs.Checked.{Checked}
 
 earned-below : (n : ℕ) (s : Side) → earnedColumn s < columns n
 earned-below n draw = omega arith
@@ -64,56 +65,56 @@ module _ (n p : ℕ) where
       }
 
   module _ (pileNumbers : ℕ → ℕ) (frame : Frame n p pileNumbers) where
-    abbrev pub at : Book → List ℕ
+    abbrev at : Book → List ℕ
     at a = file n p pileNumbers a
 
-    lawful-piles : (a : Book) → LawfulBook n p a → Lawful n p (pilesOf a)
-    lawful-piles a lawful k l = facts n _ (lawful .bodies k l .passes)
+    lawful-piles : (a : Book) → PassesCheck n p a → Lawful n p (pilesOf a)
+    lawful-piles a passes k l = facts n _ (passes k l)
 
     -- a row's bytes are those of its numbers
-    row-number : (a : Book) → LawfulBook n p a → (k i c : ℕ) → k < p → i < n → c < columns n
+    row-number : (a : Book) → PassesCheck n p a → (k i c : ℕ) → k < p → i < n → c < columns n
         → numbersOf (bytes.row n (pilesOf a k) i) c ≡ numbers (row a k i) c
-    row-number a lawful k i c l m v =
-        bytes.row-numbers n (pilesOf a k) i (lawful-fits n _ (lawful-piles a lawful k l)) m c v
+    row-number a passes k i c l m v =
+        bytes.row-numbers n (pilesOf a k) i (lawful-fits n _ (lawful-piles a passes k l)) m c v
         ∙ ap (λ (r : List ℕ). numbers r c) (view-row n (cell (bodyIn a k)) (suc i))
         ∙ getD-list (columns n) (numbers (row a k i)) 0 c v
 
     -- so comparing them tells the same
-    pub compared-order : (a b : Book) → LawfulBook n p a → LawfulBook n p b → (k i : ℕ) → k < p → i < n
+    pub compared-order : (a b : Book) → PassesCheck n p a → PassesCheck n p b → (k i : ℕ) → k < p → i < n
         → compared (rowPart (at a) k (suc i)) (rowPart (at b) k (suc i)) ≡ order n (row a k i) (row b k i)
     unfolding file
-    compared-order a b lawful-a lawful-b k i l m =
+    compared-order a b passes-a passes-b k i l m =
         let x = pilesOf a k in
         let y = pilesOf b k in
         ap₂ compared (bytes.row-part n p pileNumbers (pilesOf a) k (suc i) l (suc-le-suc m)) (bytes.row-part n p pileNumbers (pilesOf b) k (suc i) l (suc-le-suc m))
         ∙ compared-rows (bytes.row n x i) (bytes.row n y i) (bytes.row-is-row n x i (frame .sizes .desks-least) (frame .sizes .desks-most))
         (length-body-row n x (suc i) ∙ sym (length-body-row n y (suc i)))
         ∙ ap (λ (w : ℕ). rowOrder w (numbersOf (bytes.row n x i)) (numbersOf (bytes.row n y i))) (bytes.row-places n x i)
-        ∙ row-order-cong (columns n) (λ c v. row-number a lawful-a k i c l m v) (λ c v. row-number b lawful-b k i c l m v)
+        ∙ row-order-cong (columns n) (λ c v. row-number a passes-a k i c l m v) (λ c v. row-number b passes-b k i c l m v)
 
-    pub file-readable : (a : Book) → LawfulBook n p a → bookAnswer (at a) ≡ 0
+    pub file-readable : (a : Book) → PassesCheck n p a → bookAnswer (at a) ≡ 0
     unfolding file
-    file-readable a lawful = written-readable n p pileNumbers frame (pilesOf a) (lawful-piles a lawful)
+    file-readable a passes = written-readable n p pileNumbers frame (pilesOf a) (lawful-piles a passes)
 
-    module _ (a b : Book) (ab : Related n p a b) where
+    module _ (a b : Book) (ab : Checked n p a b) where
       pub same-books : sameBook (at a) (at b) ≡ true
       unfolding file
       same-books =
           same-book n p pileNumbers frame (pilesOf a) (pilesOf b) (pilesOf (join n p a b)) (lawful-piles a (ab .first)) (lawful-piles b (ab .second))
-          (merged a b ab)
+          (merged a b (ab .related))
 
       pub taken-join : taken (at a) (at b) ≡ at (join n p a b)
       unfolding file
       taken-join =
           taken-book n p pileNumbers frame (pilesOf a) (pilesOf b) (pilesOf (join n p a b)) (lawful-piles a (ab .first)) (lawful-piles b (ab .second))
-          (merged a b ab)
+          (merged a b (ab .related))
 
       -- where the taker's own row is not behind, the take is accepted
       pub take-done : (d : ℕ) → d < n → ((k : ℕ) → k < p → above n (row a k d) (row b k d)) → takeAnswer d (at a) (at b) ≡ 0
       unfolding file
       take-done d d<n ahead =
           take-accepted n p pileNumbers frame (pilesOf a) (pilesOf b) (pilesOf (join n p a b)) (lawful-piles a (ab .first)) (lawful-piles b (ab .second))
-          (merged a b ab) d d<n (λ k l. row-le a b k d (ahead k l))
+          (merged a b (ab .related)) d d<n (λ k l. row-le a b k d (ahead k l))
 
       pub join-accepted : joinAnswer (at a) (at b) ≡ 0
       unfolding joinAnswer file bookBytes
@@ -122,4 +123,4 @@ module _ (n p : ℕ) where
           (none-met (ap ofCopy (file-readable b (ab .second)))
           (none-met (not-met 30 (ap not same-books))
           (first-none p (λ k l. first-none n (λ i m. not-met 31
-          (ap isSplit (compared-order a b (ab .first) (ab .second) k i l m) ∙ ab .no-split k i l m))))))
+          (ap isSplit (compared-order a b (ab .first) (ab .second) k i l m) ∙ ab .related .no-split k i l m))))))

@@ -1,24 +1,28 @@
 -- The join on bytes (6/12): the book that a file holds, the file of a book, and what two files meet in a take whatever the taker's desk.
 -- Assumes nothing.
-use Prim.Native.Nat.{ℕ, suc}
-use mathlib.Core.Path.{_≡_}
-use mathlib.Core.Bool.{true, not}
+use Prim.Native.Nat.{ℕ, suc, _<_}
+use mathlib.Core.Bool.{not}
 use mathlib.Core.List.{List}
+use lib.ListN.{getD}
 use Rattle.rules.specs.Loops.{list}
 use Rattle.rules.specs.Refusals.{_when_, _orElse_, first}
 use Rattle.rules.specs.Pile.{Pile}
 use Rattle.rules.specs.Layout.{desks, piles, pileNumber, pileOf, bodyRow, bookBytes}
 use Rattle.rules.specs.Rows.{isSplit, compared}
 use Rattle.rules.specs.Book.{bookAnswer}
-use Rattle.rules.specs.Take.{rowPart, ofCopy, sameBook, takeAnswer, taken, afterTake}
+use Rattle.rules.specs.Take.{rowPart, ofCopy, sameBook}
 use Rattle.relays.specs.Join.{Body, Book, bodyIn, pileIn, join}
 
+-- A file is a list of bytes: none of its numbers is above 255.
+abbrev pub AllBytes : List ℕ → Type 0
+AllBytes b = (k : ℕ) → getD b k 0 < 256
+
 -- the book that a file holds
-abbrev pub bodyOf : ℕ → Pile → Body
-bodyOf n p = record { opening = bodyRow n p 0; rows = list n (λ i. bodyRow n p (suc i)) }
+abbrev pub bodyHeld : ℕ → Pile → Body
+bodyHeld n p = record { opening = bodyRow n p 0; rows = list n (λ i. bodyRow n p (suc i)) }
 
 unfoldable pub bookOf : List ℕ → Book
-bookOf b = list (piles b) (λ k. bodyOf (desks b) (pileOf b k))
+bookOf b = list (piles b) (λ k. bodyHeld (desks b) (pileOf b k))
 
 -- the file of a book of n desks and p piles under their pile numbers
 unfoldable pub file : ℕ → ℕ → (ℕ → ℕ) → Book → List ℕ
@@ -35,30 +39,3 @@ joinAnswer own copy =
     orElse ofCopy (bookAnswer copy)
     orElse 30 when not (sameBook own copy)
     orElse first (piles own) (λ k. first (desks own) (λ i. 31 when isSplit (compared (rowPart own k (suc i)) (rowPart copy k (suc i)))))
-
--- One join of files, beside `Joins`: it meets none of those refusals, and what comes out, which is what an accepted take leaves, is readable and of the same opening.
-pub record FileJoins (a b : List ℕ) : Type 0 where
-  pub meets-none : joinAnswer a b ≡ 0
-  pub readable : bookAnswer (taken a b) ≡ 0
-  pub opening : sameBook (taken a b) a ≡ true
-
--- The laws on bytes, and each join that they speak of.
-pub record FileLaws (a b c : List ℕ) : Type 0 where
-  pub commutative : taken a b ≡ taken b a
-  pub associative : taken (taken a b) c ≡ taken a (taken b c)
-  pub idempotent : taken a a ≡ a
-  pub first-second : FileJoins a b
-  pub second-first : FileJoins b a
-  pub second-third : FileJoins b c
-  pub first-itself : FileJoins a a
-  pub two-with-third : FileJoins (taken a b) c
-  pub first-with-two : FileJoins a (taken b c)
-
--- Relays: desk d has a, and b and c reach it. It takes them one by one in either order, or takes what desk e's book b became when c was taken into it: no take is
--- refused, and desk d is left with the same bytes.
-pub record Relayed (d e : ℕ) (a b c : List ℕ) : Type 0 where
-  pub c-after-b : takeAnswer d (afterTake d a b) c ≡ 0
-  pub b-after-c : takeAnswer d (afterTake d a c) b ≡ 0
-  pub both-at-once : takeAnswer d a (afterTake e b c) ≡ 0
-  pub same-in-turn : afterTake d (afterTake d a b) c ≡ afterTake d (afterTake d a c) b
-  pub same-at-once : afterTake d (afterTake d a b) c ≡ afterTake d a (afterTake e b c)

@@ -20,14 +20,14 @@ abbrev pub Book : Type 0
 Book = List Body
 
 -- the row of desk i; the body of the pile at place k
-abbrev pub rowIn : Body → ℕ → List ℕ
-rowIn x i = getD (x .rows) i []
+abbrev pub deskRow : Body → ℕ → List ℕ
+deskRow x i = getD (x .rows) i []
 
 abbrev pub bodyIn : Book → ℕ → Body
 bodyIn a k = getD a k (record { opening = []; rows = [] })
 
 abbrev pub row : Book → ℕ → ℕ → List ℕ
-row a k i = rowIn (bodyIn a k) i
+row a k i = deskRow (bodyIn a k) i
 
 abbrev pub numbers : List ℕ → ℕ → ℕ
 numbers r c = getD r c 0
@@ -35,7 +35,7 @@ numbers r c = getD r c 0
 -- the pile of a body of n desks, read by side and desk
 abbrev pub cell : Body → ℕ → ℕ → ℕ
 cell x zero = numbers (x .opening)
-cell x (suc i) = numbers (rowIn x i)
+cell x (suc i) = numbers (deskRow x i)
 
 abbrev pub pileIn : ℕ → Body → Pile
 pileIn n x = view n (cell x)
@@ -49,7 +49,7 @@ unfoldable pub joinRow : ℕ → List ℕ → List ℕ → List ℕ
 joinRow n mine copy = cond (isCopyLater (order n mine copy)) copy mine
 
 unfoldable pub joinBody : ℕ → Body → Body → Body
-joinBody n x y = record { opening = x .opening; rows = list n (λ i. joinRow n (rowIn x i) (rowIn y i)) }
+joinBody n x y = record { opening = x .opening; rows = list n (λ i. joinRow n (deskRow x i) (deskRow y i)) }
 
 unfoldable pub join : ℕ → ℕ → Book → Book → Book
 join n p a b = list p (λ k. joinBody n (bodyIn a k) (bodyIn b k))

@@ -4,17 +4,17 @@ use Prim.Native.Nat.{ℕ, _<_}
 use mathlib.Core.Path.{_≡_}
 use mathlib.Core.Bool.{true, false}
 use lib.ListN.{length}
-use Rattle.rules.specs.Pile.{pileAnswer}
+use Rattle.rules.specs.Pile.{lawful, pileAnswer}
 use Rattle.rules.specs.Layout.{columns}
 use Rattle.rules.specs.Rows.{atLeast, isSplit}
-use Rattle.relays.specs.Join.{Body, Book, rowIn, bodyIn, row, numbers, pileIn, order, join}
+use Rattle.relays.specs.Join.{Body, Book, deskRow, bodyIn, row, numbers, pileIn, order, join}
 
--- An opening and n rows, each of 2(n + 1) numbers, that pass document 01's checks of a body: 5, 6 and 7.
+-- An opening and n rows, each of 2(n + 1) numbers, by which no rights are negative: that is what document 01 calls a lawful pile. The numbers have no limits.
 pub record LawfulBody (n : ℕ) (x : Body) : Type 0 where
   pub opening : length (x .opening) ≡ columns n
   pub desks : length (x .rows) ≡ n
-  pub rows : (i : ℕ) → i < n → length (rowIn x i) ≡ columns n
-  pub passes : pileAnswer n (pileIn n x) ≡ 0
+  pub rows : (i : ℕ) → i < n → length (deskRow x i) ≡ columns n
+  pub none-negative : lawful n (pileIn n x) ≡ true
 
 pub record LawfulBook (n p : ℕ) (a : Book) : Type 0 where
   pub piles : length a ≡ p
@@ -30,6 +30,15 @@ NoSplit n p a b = (k i : ℕ) → k < p → i < n → isSplit (order n (row a k 
 -- The order of books of one opening: every tally of the first is at least that of the second.
 pub record Above (n p : ℕ) (a b : Book) : Type 0 where
   pub rows : (k i : ℕ) → k < p → i < n → atLeast (columns n) (numbers (row a k i)) (numbers (row b k i)) ≡ true
+
+-- It is a partial order of lawful books of one opening.
+pub record PartialOrder (n p : ℕ) : Type 0 where
+  pub reflexive : (a : Book) → Above n p a a
+  pub transitive : (a b c : Book) → Above n p a b → Above n p b c → Above n p a c
+  pub antisymmetric : (a b : Book) → LawfulBook n p a → LawfulBook n p b → OneOpening p a b → Above n p a b → Above n p b a → a ≡ b
+
+abbrev pub AboveOrders : Type 0
+AboveOrders = (n p : ℕ) → PartialOrder n p
 
 -- One join: it meets no split, what comes out is lawful and of the same opening, and it is the least upper bound of the two.
 pub record Joins (n p : ℕ) (a b : Book) : Type 0 where
@@ -61,3 +70,11 @@ pub record Related (n p : ℕ) (a b : Book) : Type 0 where
 
 abbrev pub OrderOfRelays : Type 0
 OrderOfRelays = (n p : ℕ) (a b c : Book) → Related n p a b → Related n p b c → Related n p a c → JoinLaws n p a b c
+
+-- Every body passes document 01's whole check: 5 and 6, which have the limits of openings and tallies, and 7.
+abbrev pub PassesCheck : ℕ → ℕ → Book → Type 0
+PassesCheck n p a = (k : ℕ) → k < p → pileAnswer n (pileIn n (bodyIn a k)) ≡ 0
+
+-- 5 and 6 carry over beside 7: where lawful books of one opening with no split pass the whole check, so does their join.
+abbrev pub ChecksCarryOver : Type 0
+ChecksCarryOver = (n p : ℕ) (a b : Book) → Related n p a b → PassesCheck n p a → PassesCheck n p b → PassesCheck n p (join n p a b)

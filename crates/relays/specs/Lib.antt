@@ -1,4 +1,5 @@
 pub mod Join
 pub mod Laws
 pub mod Files
+pub mod FileLaws
 pub mod Plans

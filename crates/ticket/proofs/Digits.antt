@@ -17,7 +17,8 @@ use Rattle.rules.specs.Numbers.{part}
 use Rattle.rules.proofs.Loops.Logic.{and-left, and-right, and-both}
 use Rattle.rules.proofs.Loops.Every.{every-cong}
 use Rattle.rules.proofs.Loops.Sets.{sets-append}
-use Rattle.ticket.specs.Packed.{pairNumber, pairByte, pairRight, packedNumber, packedBytes, digitsRight, PackedForm}
+use Rattle.ticket.specs.Packed.{pairNumber, pairByte, pairRight, packedNumber, packedBytes, digitsRight}
+use Rattle.ticket.specs.Laws.{PackedForm, OnePackedForm}
 
 -- one byte
 pair-read : (x : ℕ) → x < 100 → pairNumber (pairByte x) ≡ x
@@ -37,7 +38,7 @@ pair-below b e = let d = right-digits b e in omega (arith, d .0, d .1)
 pair-written : (b : ℕ) → pairRight b ≡ true → pairByte (pairNumber b) ≡ b
 pair-written b e = let d = right-digits b e in omega (arith, d .0, d .1)
 
-pub length-packed : (w x : ℕ) → length (packedBytes w x) ≡ w
+length-packed : (w x : ℕ) → length (packedBytes w x) ≡ w
 unfolding packedBytes
 length-packed zero x = refl
 length-packed (suc w) x = length-append (packedBytes w (x / 100)) _ ∙ omega (arith, length-packed w (x / 100))
@@ -99,7 +100,7 @@ module _ (b : List ℕ) (at : ℕ) where
       ∙ sym (take-suc (drop at b) w 0 (omega (arith, length-drop at b)))
 
 -- so each number in range has just one packed form
-pub one-packed-form : (w x : ℕ) → x < 100 ^ w → PackedForm w x (packedBytes w x) × ((b : List ℕ) → PackedForm w x b → b ≡ packedBytes w x)
+pub one-packed-form : OnePackedForm
 one-packed-form w x l = ((length-packed w x, right-packed w x, number-packed w x l), only)
   where
     only : (b : List ℕ) → PackedForm w x b → b ≡ packedBytes w x

@@ -22,6 +22,7 @@ use Rattle.rules.proofs.Loops.Sets.{part-sets}
 use Rattle.ticket.specs.declared.Ticket.{Ticket}
 use Rattle.ticket.specs.Packed.{packedNumber, packedBytes, digitsRight}
 use Rattle.ticket.specs.Tickets.{ticketLength, numberLimit, ticketBytes, ticketOf, fieldAnswer, fieldsAnswer, readAnswer, writeAnswer, handedBack, reading, afterWrite}
+use Rattle.ticket.specs.Laws.{ReadAndWritten, WrittenAndRead, NumberInRange}
 use Rattle.ticket.proofs.Digits.{number-packed, right-packed, packed-below, packed-number}
 
 -- what an accepted field says: its digits are right, and its value is in range
@@ -47,7 +48,7 @@ fields-accepted d₁ d₂ d₃ t e =
 
 -- what is read again: the bytes of the ticket that they say
 module _ (b : List ℕ) (e : readAnswer b ≡ 0) where
-  eleven : length b ≡ ticketLength
+  pub eleven : length b ≡ ticketLength
   unfolding readAnswer
   eleven = eqb-true _ _ (when-not-done 2 _ (orElse-first _ _ e))
 
@@ -63,7 +64,7 @@ module _ (b : List ℕ) (e : readAnswer b ≡ 0) where
       sym (part-add 0 9 2 b ∙ ap (λ (r : List ℕ). r ++ part 9 2 b) (part-add 0 7 2 b ∙ ap (λ (r : List ℕ). r ++ part 7 2 b) (part-add 0 4 3 b)))
       ∙ take-all 11 b (le-of-eq eleven)
 
-  pub same-bytes : ticketBytes (ticketOf b) ≡ b
+  same-bytes : ticketBytes (ticketOf b) ≡ b
   unfolding ticketBytes ticketOf
   same-bytes =
       let right = fields-accepted _ _ _ _ fields in
@@ -78,16 +79,17 @@ module _ (b : List ℕ) (e : readAnswer b ≡ 0) where
   pub number-within : ticketOf b .number ≤ numberLimit
   number-within = fields-accepted _ _ _ _ fields .of-number .1
 
-  -- a ticket that was read and is written again is the same bytes
-  pub read-and-written : (out : List ℕ) → ticketLength ≤ length out
-      → (writeAnswer (reading b .ticket) out ≡ 0) × (afterWrite (reading b .ticket) out ≡ sets out 0 b)
-  unfolding reading writeAnswer afterWrite
-  read-and-written out room =
-      let right = fields-accepted _ _ _ _ fields in
-      let read : reading b .ticket ≡ ticketOf b = when-accepted _ _ _ e in
-      let values : fieldsAnswer true true true (ticketOf b) ≡ 0 = rw (right .of-number .0, right .of-pile .0, right .of-tonnes .0) at fields in
-      let accepted : writeAnswer (ticketOf b) out ≡ 0 = none-met values (not-met 8 (le-ltb _ _ room)) in
-      rw read (accepted, when-accepted _ _ _ accepted ∙ ap (sets out 0) same-bytes)
+  -- its fields pass as those of a ticket that is written
+  values-right : fieldsAnswer true true true (ticketOf b) ≡ 0
+  values-right = let right = fields-accepted _ _ _ _ fields in rw (right .of-number .0, right .of-pile .0, right .of-tonnes .0) at fields
+
+-- a ticket that was read and is written again is the same bytes
+pub read-and-written : ReadAndWritten
+unfolding reading writeAnswer afterWrite
+read-and-written b e out room =
+    let read : reading b .ticket ≡ ticketOf b = when-accepted _ _ _ e in
+    let accepted : writeAnswer (ticketOf b) out ≡ 0 = none-met (values-right b e) (not-met 8 (le-ltb _ _ room)) in
+    rw read (accepted, when-accepted _ _ _ accepted ∙ ap (sets out 0) (same-bytes b e))
 
 -- and a ticket that was written is read unaltered
 length-ticket : (t : Ticket) → length (ticketBytes t) ≡ ticketLength
@@ -118,7 +120,7 @@ module _ (t : Ticket) (values : fieldsAnswer true true true t ≡ 0) where
   unfolding reading
   read-back = ap₂ handedBack accepted (when-accepted _ _ _ accepted ∙ same-ticket)
 
-pub written-and-read : (t : Ticket) (out : List ℕ) → writeAnswer t out ≡ 0 → reading (part 0 ticketLength (afterWrite t out)) ≡ handedBack 0 t
+pub written-and-read : WrittenAndRead
 unfolding writeAnswer afterWrite
 written-and-read t out e =
     let room : ticketLength ≤ length out = ltb-false _ _ (when-done 7 _ (orElse-rest _ _ e)) in
@@ -133,6 +135,6 @@ below-limit b right =
     let x = packedNumber 4 b 0 in
     and-both (le-leb 0 x (omega arith)) (le-leb x numberLimit (omega (arith, packed-below b 0 4 right)))
 
-pub number-in-range : (b : List ℕ) → fieldAnswer 33 0 numberLimit (digitsRight 4 b 0) (packedNumber 4 b 0) ≡ 33 when not (digitsRight 4 b 0)
+pub number-in-range : NumberInRange
 unfolding fieldAnswer _when_ _orElse_
 number-in-range b = ⊎-elim (λ right. rw (below-limit b right) (rw right refl)) (λ wrong. rw wrong refl) (decided (digitsRight 4 b 0))

@@ -1,10 +1,9 @@
 -- Packed decimal (binary-coded decimal): two digits a byte, the high digit first and so the high byte first, w bytes wide.
 -- Assumes nothing.
 use Prim.Native.Nat.{ℕ, zero, suc, _+_, _*_, _/_, _%_}
-use mathlib.Core.Path.{_≡_}
-use mathlib.Core.Bool.{Bool, true}
+use mathlib.Core.Bool.{Bool}
 use mathlib.Core.List.{List, [], _∷_, _++_}
-use lib.ListN.{length, getD}
+use lib.ListN.{getD}
 use lib.Dec.{leb}
 use Rattle.rules.specs.Loops.{_and_, every}
 
@@ -32,7 +31,3 @@ packedBytes (suc w) x = packedBytes w (x / 100) ++ pairByte (x % 100) ∷ []
 -- no digit of the w bytes at a position is above 9
 unfoldable pub digitsRight : ℕ → List ℕ → ℕ → Bool
 digitsRight w b at = every w (λ k. pairRight (getD b (at + k) 0))
-
--- w bytes with right digits that say a number
-abbrev pub PackedForm : (w x : ℕ) → List ℕ → Type 0
-PackedForm w x b = (length b ≡ w) × (digitsRight w b 0 ≡ true) × (packedNumber w b 0 ≡ x)

@@ -42,7 +42,7 @@ ticketOf b =
 unfoldable pub fieldAnswer : (refusal low high : ℕ) → Bool → ℕ → ℕ
 fieldAnswer refusal low high right x = 33 when not right orElse refusal when not (between low high x)
 
--- the fields in their order; a number that is read is never over its limit (`number-in-range`)
+-- the fields in their order; a number that is read is never over its limit (`NumberInRange` in Laws.antt)
 unfoldable pub fieldsAnswer : (numberRight pileRight tonnesRight : Bool) → Ticket → ℕ
 fieldsAnswer numberRight pileRight tonnesRight t =
     fieldAnswer 33 0 numberLimit numberRight (t .number)

@@ -11,7 +11,7 @@ use borrow.Author.Needs.{needs}
 use borrow.Author.Tests.{ltb-true, ltb-false}
 use Rattle.rules.proofs.Loops.Logic.{or-first, or-second}
 use Rattle.reconcile.specs.Lists.{lengthWrong, reconcileAnswer}
-use Rattle.reconcile.specs.Walk.{Walked}
+use Rattle.reconcile.specs.Inner.{Walked}
 use Rattle.reconcile.proofs.Reconciled.{sized, begun, judged, counts-right, handed-refused, handed-done, length-refused}
 use Rattle.reconcile.proofs.reconcile.Statement.{statement}
 use Rattle.reconcile.proofs.reconcile.Tie as tie
@@ -94,14 +94,15 @@ judge-is c =
     c .judge .ensures ∙ judged (loop-left c .loop .inv) (c .before .before .before .if3 .left) (ltb-false _ _ (c .before .if4 .left)) (bridge-length right) (desk-length right)
 
 returns-3 : tie.Need-returns-3 Inv-loop μ-loop
-returns-3 c = c .refused3 .ensures ∙ handed-refused _ _ (judge-is (c .before .before)) (c .before .if5 .taken)
+returns-3 c = c .refused3 .ensures ∙ handed-refused _ _ (judge-is (c .before .before)) (λ e. omega (arith, c .before .if5 .taken, e))
 
 returns-4 : tie.Need-returns-4 Inv-loop μ-loop
 returns-4 c =
     let judge = c .before in
     let is = judge-is judge in
-    counts-right (loop-left judge .loop .inv) (judge .before .before .before .if3 .left) (ltb-false _ _ (judge .before .if4 .left)) (sym is ∙ c .if5 .left)
-    ∙ handed-done _ _ is (c .if5 .left)
+    let accepted : judge .judge .result ≡ 0 = omega (arith, c .if5 .left) in
+    counts-right (loop-left judge .loop .inv) (judge .before .before .before .if3 .left) (ltb-false _ _ (judge .before .if4 .left)) (sym is ∙ accepted)
+    ∙ handed-done _ _ is accepted
 
 pub reconcile-spec : {M : Type 1} → statement M
 reconcile-spec =

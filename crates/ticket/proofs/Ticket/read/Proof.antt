@@ -1,6 +1,7 @@
 -- `read` asks the length, reads the three packed fields, and then asks the fields.
 -- Assumes nothing.
 use native.Mathlib.Nat.{suc-ne-zero}
+use native.Mathlib.Omega.{arith}
 use mathlib.Core.Path.{_≡_, _∙_}
 use borrow.Author.Needs.{needs}
 use Rattle.ticket.specs.Tickets.{ticketOf, readAnswer}
@@ -12,7 +13,7 @@ refused-requires : tie.Need-refused-requires
 refused-requires c κs = search needs
 
 returns : tie.Need-returns
-returns c = c .refused .ensures ∙ reading-refused _ (length-wrong _ (c .before .if1 .taken)) (suc-ne-zero 2)
+returns c = c .refused .ensures ∙ reading-refused _ (length-wrong _ (λ e. omega (arith, c .before .if1 .taken, e))) (suc-ne-zero 2)
 
 unpack-requires : tie.Need-unpack-requires
 unpack-requires c κs = search needs
@@ -44,7 +45,7 @@ read-off c =
     let tonnes = c .before .before .before in
     let pile = tonnes .before in
     let number = pile .before in
-    let read = fields-read _ (number .before .if1 .left) (number .unpack .ensures) (pile .unpack2 .ensures) (tonnes .unpack3 .ensures) in
+    let read = fields-read _ (omega (arith, number .before .if1 .left)) (number .unpack .ensures) (pile .unpack2 .ensures) (tonnes .unpack3 .ensures) in
     (c .fields-answer .ensures ∙ read .0, read .1)
 
 returns-2 : tie.Need-returns-2

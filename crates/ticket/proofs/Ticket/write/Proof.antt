@@ -1,8 +1,10 @@
 -- `write` asks the fields and the room, and then puts the ticket.
 -- Assumes nothing.
 use native.Mathlib.Nat.{suc-ne-zero}
+use native.Mathlib.Omega.{arith}
 use mathlib.Core.Path.{_≡_, ap, sym, _∙_}
 use mathlib.Core.Bool.{Bool}
+use mathlib.Core.Logic.{_≢_}
 use lib.Dec.{ltb}
 use lib.ListN.{length}
 use borrow.Author.Needs.{needs}
@@ -19,7 +21,9 @@ fields-answer-requires c κs = search needs
 
 returns : tie.Need-returns
 unfolding writeAnswer
-returns c = write-refused _ _ (own-refusal (c .before .fields-answer .ensures) (c .if1 .taken) _) (c .if1 .taken)
+returns c =
+    let refused : c .before .fields-answer .result ≢ 0 = λ e. omega (arith, c .if1 .taken, e) in
+    write-refused _ _ (own-refusal (c .before .fields-answer .ensures) refused _) refused
 
 -- where all fields are right, the room is asked
 past-fields : (c : tie.Else1) {room : Bool} → ltb (length (c .before .before .before .args .out .now)) ticketLength ≡ room → 8 when room ≡ writeAnswer (c .before .before .before .args .self) (c .before .before .before .args .out .now)

@@ -2,7 +2,7 @@
 -- Assumes nothing.
 use Prim.Native.Nat.{ℕ}
 use mathlib.Core.Path.{_≡_, refl, sym, _∙_}
-use mathlib.Core.Bool.{not}
+use mathlib.Core.Bool.{false, not}
 use lib.Dec.{ltb}
 use borrow.Author.Needs.{needs}
 use borrow.Author.Tests.{lt-ltb, le-ltb}
@@ -58,7 +58,10 @@ past-packed c answer e =
 
 returns-4 : tie.Need-returns-4
 unfolding _when_ _orElse_
-returns-4 c = past-packed (c .before .before .before) 35 (rw (fails (c .before .between .ensures) (c .if4 .taken)) refl)
+returns-4 c =
+    let at = c .before .before .before in
+    let wrong : between 1 2 (at .before .before .before .before .before .before .args .t .kind) ≡ false = fails (c .before .between .ensures) (c .if4 .taken) in
+    past-packed at 35 (rw wrong refl)
 
 returns-5 : tie.Need-returns-5
 unfolding _when_ _orElse_

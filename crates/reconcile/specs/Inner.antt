@@ -1,4 +1,5 @@
--- What the functions inside the crate promise of the walk over two lists of tickets: at each list it has a cursor.
+-- What the functions inside the crate promise each other of the walk over two lists of tickets: at each list it has a cursor. No promise of the crate's own
+-- cites these.
 -- Assumes nothing.
 use Prim.Native.Nat.{ℕ, suc, _+_, _*_, _/_, _%_, _≤_, _<_}
 use mathlib.Core.Path.{_≡_}
@@ -13,7 +14,7 @@ use Rattle.ticket.specs.declared.Reading.{Reading}
 use Rattle.ticket.specs.Tickets.{ticketLength, numberLimit, asTicket, handedBack, reading}
 use Rattle.reconcile.specs.declared.cursor.Cursor.{Cursor}
 use Rattle.reconcile.specs.declared.walk.Walk.{Walk}
-use Rattle.reconcile.specs.Counts.{numberAt, has, shares, rising}
+use Rattle.reconcile.specs.Counts.{numberAt, has, shares, numbersRise}
 use Rattle.reconcile.specs.Lists.{listLimit, ticketsIn, ticketPart, ticketsOf, ticketsAnswer}
 
 -- the end of a list: above the number of every ticket
@@ -46,7 +47,7 @@ abbrev pub nextNumber : List Ticket → ℕ → ℕ
 nextNumber l k = cond (ltb k (length l)) (numberAt l k) (endTicket .number)
 
 -- One list beside another: its first j tickets are passed, and k of the other's. Their numbers are below the other's next one, and are counted.
-pub record Passed (l m : List Ticket) (j k alike differing only : ℕ) : Type 0 where
+pub record PassedTickets (l m : List Ticket) (j k alike differing only : ℕ) : Type 0 where
   pub below : (i : ℕ) → i < j → numberAt l i < nextNumber m k
   pub alike-is : alike ≡ count j (λ i. has m (numberAt l i) and shares l m (numberAt l i))
   pub differing-is : differing ≡ count j (λ i. has m (numberAt l i) and not (shares l m (numberAt l i)))
@@ -55,16 +56,16 @@ pub record Passed (l m : List Ticket) (j k alike differing only : ℕ) : Type 0 
 -- nothing is wrong with a list's tickets and their order
 pub record Sound (b : List ℕ) : Type 0 where
   pub tickets-right : ticketsAnswer b ≡ 0
-  pub rises : rising (ticketsOf b) ≡ true
+  pub rises : numbersRise (ticketsOf b) ≡ true
 
 -- the walk as one of the lists has it; where something is wrong with a list, the counts say nothing
-pub record Side (own other : List ℕ) (c d : Cursor) (alike differing only : ℕ) : Type 0 where
+pub record ListWalked (own other : List ℕ) (c d : Cursor) (alike differing only : ℕ) : Type 0 where
   pub standing : Standing own c
   pub adds-up : alike + differing + only ≡ c .at / ticketLength
   pub passed : Sound own → Sound other
-      → Passed (ticketsOf own) (ticketsOf other) (c .at / ticketLength) (d .at / ticketLength) alike differing only
+      → PassedTickets (ticketsOf own) (ticketsOf other) (c .at / ticketLength) (d .at / ticketLength) alike differing only
 
 -- and as both have it
 pub record Walked (bridge desk : List ℕ) (w : Walk) : Type 0 where
-  pub of-bridge : Side bridge desk (w .bridge) (w .desk) (w .alike) (w .differing) (w .«only_bridge»)
-  pub of-desk : Side desk bridge (w .desk) (w .bridge) (w .alike) (w .differing) (w .«only_desk»)
+  pub of-bridge : ListWalked bridge desk (w .bridge) (w .desk) (w .alike) (w .differing) (w .«only_bridge»)
+  pub of-desk : ListWalked desk bridge (w .desk) (w .bridge) (w .alike) (w .differing) (w .«only_desk»)
