@@ -85,18 +85,18 @@ module _ (i : ℕ) (b : List ℕ) (number : ℕ) (found : deskAnswer i b number 
 
 -- what `seek` tells of a number; a refusal is all that its reply has, whatever stands at the start
 abbrev pub Told : ℕ → List ℕ → ℕ → (m start n : ℕ) → Type 0
-Told i b number m start n = (m ≡ deskAnswer i b number) × (start ≡ deskStart i b number) × (n ≡ deskCount i b number)
+Told i b number m start n = (m ≡ deskAnswer i b number) × ((start ≡ deskStart i b number) × (n ≡ deskCount i b number))
 
 module _ (i : ℕ) (b : List ℕ) (number : ℕ) {m start n : ℕ} (told : Told i b number m start n) where
   found : m ≡ 0 → deskAnswer i b number ≡ 0
   found z = sym (told .0) ∙ z
 
   pub sought-sound : m ≡ 0 → SoughtBody i b n start
-  sought-sound z = record { sound = body-sound i b number (found z) (told .1); count = told .2 ∙ found-count i b number (found z) }
+  sought-sound z = record { sound = body-sound i b number (found z) (told .1 .0); count = told .1 .1 ∙ found-count i b number (found z) }
 
   pub sought-reply : (f : Pile → ℕ) → reply m (f (bodyView (desks b) b start)) ≡ reply (deskAnswer i b number) (f (pileOf b (place b number)))
   sought-reply f =
-      by-cases (ℕ-discrete m 0) (λ z. rw (told .0, pile-is i b number (found z) (told .1)))
+      by-cases (ℕ-discrete m 0) (λ z. rw (told .0, pile-is i b number (found z) (told .1 .0)))
       (λ d. rw (← told .0) (sym (reply-refused m _ d) ∙ reply-refused m _ d))
 
   pub rights-reply : (s : Side) → reply m (rights (desks b) (bodyView (desks b) b start) s i) ≡ rightsReply s i b number

@@ -35,11 +35,11 @@ module _ (b : List ℕ) where
       answer-3 d = rw (le-ltb _ _ long, head, ne-eqb _ _ d)
 
       module _ (sized : length b ≡ bookLength (headOf b)) where
-        pub answer-4 : contentsSound b ≡ false → 4 ≡ bookAnswer b
+        pub answer-4 : contentsSound (headOf b) b ≡ false → 4 ≡ bookAnswer b
         unfolding bookAnswer _when_ _orElse_
         answer-4 e = rw (le-ltb _ _ long, head, eq-eqb _ _ sized, e)
 
-        pub answer-of-bodies : contentsSound b ≡ true → first (piles b) (λ k. pileAnswer (desks b) (pileOf b k)) ≡ bookAnswer b
+        pub answer-of-bodies : contentsSound (headOf b) b ≡ true → first (piles b) (λ k. pileAnswer (desks b) (pileOf b k)) ≡ bookAnswer b
         unfolding bookAnswer _when_ _orElse_
         answer-of-bodies e = rw (le-ltb _ _ long, head, eq-eqb _ _ sized, e)
 

@@ -8,16 +8,16 @@ use layout::head::front_length;
 use layout::lengths::body_length;
 ghost use mathlib.Core.Path.{_≡_};
 ghost use lib.Dec.{eqb};
-ghost use Rattle.rules.specs.Loops.{_and_, every, index};
-ghost use Rattle.rules.specs.Layout.{bodyAt, pileNumber, position};
-ghost use Rattle.rules.specs.Opening.{rising};
+ghost use Rattle.rules.specs.Loops.{index};
+ghost use Rattle.rules.specs.Layout.{pileNumber};
+ghost use Rattle.rules.specs.Book.{contentsSound};
 ghost use Rattle.layout.specs.Positions.{asHead};
 ghost use Rattle.book.specs.Inner.{EntriesWithin, Contents};
 
 // Pile numbers rise from above 0, and each position is where its body starts.
 pub(crate) fn contents_sound(book: &[u8], head: Head) -> bool
     requires { ⌜ Contents (asHead head) (now book) ⌝ }
-    ensures { λ r. ⌜ r ≡ rising (head .piles) (pileNumber (now (book .entry))) and every (head .piles) (λ k. eqb (position (now (book .entry)) k) (bodyAt (asHead head) k)) ⌝ }
+    ensures { λ r. ⌜ r ≡ contentsSound (asHead head) (now (book .entry)) ⌝ }
 {
     let size = body_length(head.desks);
     let mut expected = front_length(head);

@@ -9,7 +9,7 @@ use Rattle.rules.specs.Layout.{entryAt, pileNumber, position}
 use Rattle.rules.proofs.Bytes.Numbers.{number-part}
 use Rattle.layout.specs.Positions.{entryNumber, entryPosition}
 
-module _ (b : List ℕ) (k : ℕ) {at size : ℕ} (is : at ≡ entryAt k) (long : 6 ≤ size) where
+module _ (b : List ℕ) (k size : ℕ) {at : ℕ} (is : at ≡ entryAt k) (long : 6 ≤ size) where
   pub entry-says-number : entryNumber (part at size b) ≡ pileNumber b k
   unfolding entryNumber pileNumber
   entry-says-number = number-part 2 b at size 0 (omega arith) ∙ ap (number 2 b) (omega arith)

@@ -8,6 +8,7 @@ use mathlib.Core.Logic.{_⊎_, inl, inr, ⊎-elim, ⊎-map}
 use mathlib.Core.Bool.{true}
 use mathlib.Core.List.{List}
 use lib.ListN.{length}
+use Rattle.rules.specs.Numbers.{Octets}
 use Rattle.rules.specs.Pile.{lawful}
 use Rattle.rules.specs.Layout.{columns, desks}
 use Rattle.rules.specs.Book.{bookAnswer}
@@ -16,7 +17,7 @@ use Rattle.rules.proofs.Loops.Refusals.{when-accepted, when-refused}
 use Rattle.rules.proofs.Take.Order.{at-least-at}
 use Rattle.relays.specs.Join.{Book, deskRow, bodyIn, row, numbers, pileIn, join}
 use Rattle.relays.specs.Laws.{LawfulBook, OneOpening, NoSplit, Above, Joins, JoinLaws, Related, PassesCheck}
-use Rattle.relays.specs.Files.{AllBytes, joinedFile, joinAnswer}
+use Rattle.relays.specs.Files.{joinedFile, joinAnswer}
 use Rattle.relays.specs.FileLaws.{FileJoins, FileJoinLaws, Relayed}
 use Rattle.relays.specs.Plans.{Plan, numbered, relay, carried, AllRelated, takenByPlan, AllJoinable, SameNames}
 use Rattle.relays.proofs.Bodies.{repeated, unlimited}
@@ -157,7 +158,7 @@ module _ (n p : ℕ) (books : ℕ → Book) (related : AllRelated n p books) whe
   planned-lawful t u = let j = plans-join n p books related t u in (j .no-split, j .lawful)
 
 -- files
-module _ (a b c : List ℕ) (bytes-a : AllBytes a) (bytes-b : AllBytes b) (bytes-c : AllBytes c)
+module _ (a b c : List ℕ) (bytes-a : Octets a) (bytes-b : Octets b) (bytes-c : Octets c)
     (ab : joinAnswer a b ≡ 0) (bc : joinAnswer b c ≡ 0) (ac : joinAnswer a c ≡ 0) where
   laws-on-bytes : FileJoinLaws a b c
   laws-on-bytes = file-laws a b c bytes-a bytes-b bytes-c ab bc ac
@@ -192,7 +193,7 @@ pub two-files-about : takenByPlan twoFiles in-turn ≡ takenByPlan twoFiles abou
 two-files-about = any-file-plan twoFiles two-joinable in-turn about same-three
 
 -- takes of two files
-module _ (own copy : List ℕ) (bytes-own : AllBytes own) (bytes-copy : AllBytes copy) where
+module _ (own copy : List ℕ) (bytes-own : Octets own) (bytes-copy : Octets copy) where
   -- two desks that may both take a copy are left with the same book
   pub whichever-desk : (d e : ℕ) → takeAnswer d own copy ≡ 0 → takeAnswer e own copy ≡ 0 → afterTake d own copy ≡ afterTake e own copy
   whichever-desk d e at-d at-e = take-is-join d own copy bytes-own bytes-copy at-d ∙ sym (take-is-join e own copy bytes-own bytes-copy at-e)
@@ -217,7 +218,7 @@ module _ (own copy : List ℕ) (bytes-own : AllBytes own) (bytes-copy : AllBytes
       (λ e. when-refused _ _ _ (λ z. suc-ne-zero 31 (sym e ∙ z))) (join-meets-none d own copy known met)
 
 -- takes of three: none is refused, and desk d is left with the same bytes whether it took c and then b, or what desk e had made of the two
-module _ (d e : ℕ) (a b c : List ℕ) (bytes-a : AllBytes a) (bytes-b : AllBytes b) (bytes-c : AllBytes c)
+module _ (d e : ℕ) (a b c : List ℕ) (bytes-a : Octets a) (bytes-b : Octets b) (bytes-c : Octets c)
     (ab : takeAnswer d a b ≡ 0) (ac : takeAnswer d a c ≡ 0) (bc : takeAnswer e b c ≡ 0) where
   relayed : Relayed d e a b c
   relayed = relays d e a b c bytes-a bytes-b bytes-c ab ac bc

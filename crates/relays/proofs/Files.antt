@@ -9,6 +9,7 @@ use lib.ListN.{length}
 use lib.Dec.{eqb}
 use borrow.Author.Tests.{lt-ltb, eq-eqb}
 use Rattle.history.proofs.Sets.{cases}
+use Rattle.rules.specs.Numbers.{Octets}
 use Rattle.rules.specs.Loops.{_and_}
 use Rattle.rules.specs.Layout.{desks, piles, pileNumber, pileOf}
 use Rattle.rules.specs.Rows.{Comparison, isSplit, isRowLength, places, numbersOf, compared}
@@ -22,7 +23,7 @@ use Rattle.rules.proofs.File.LawfulBook.{Frame}
 use Rattle.rules.proofs.Take.RowOrder.{itself-alike}
 use Rattle.rules.proofs.Take.InPlace as take
 use Rattle.relays.specs.Join.{Book, join}
-use Rattle.relays.specs.Files.{AllBytes, bookOf, file, joinedFile, joinAnswer}
+use Rattle.relays.specs.Files.{bookOf, file, joinedFile, joinAnswer}
 use Rattle.relays.specs.FileLaws.{TakeMeetsNone, JoinMeetsNone, JoinsItself, TakenIsJoin, TakeIsJoin, TakeReadable, FileJoins, FileJoinLaws, FileLaws}
 use Rattle.relays.proofs.Join.{order-of-relays}
 use Rattle.relays.proofs.Checked.{Checked, checked-exchanged, checked-itself, checked-join, checked-to-join}
@@ -126,7 +127,7 @@ module _ (n p : ℕ) (pileNumbers : ℕ → ℕ) (frame : Frame n p pileNumbers)
       }
 
 -- what is said of one join holds of any two files that meet none of its refusals
-file-joins : (a b : List ℕ) → AllBytes a → AllBytes b → joinAnswer a b ≡ 0 → FileJoins a b
+file-joins : (a b : List ℕ) → Octets a → Octets b → joinAnswer a b ≡ 0 → FileJoins a b
 file-joins a b oa ob ab =
     as-files (λ x y _. FileJoins x y) a b b oa ob ob ab ab
     (written-joins (desks a) (piles a) (pileNumber a) (frame a b ab oa ob) (bookOf a) (bookOf b) (checked a b ab oa ob))

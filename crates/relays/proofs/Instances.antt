@@ -7,6 +7,7 @@ use mathlib.Core.Bool.{Bool, true, not}
 use mathlib.Core.List.{List, [], _∷_}
 use lib.Dec.{lit<, ltb}
 use borrow.Author.Tests.{ltb-true, not-true}
+use Rattle.rules.specs.Numbers.{Octets}
 use Rattle.rules.specs.Loops.{_and_, every}
 use Rattle.rules.specs.Rows.{isSplit}
 use Rattle.rules.specs.Take.{takeAnswer}
@@ -16,7 +17,7 @@ use Rattle.rules.proofs.Loops.Pieces.{length-list, getD-list}
 use Rattle.rules.proofs.Cases.Table.{open-loops, open-refusals, open-numbers, open-pile, open-layout, open-rows, open-opening, open-book, open-take}
 use Rattle.relays.specs.Join.{Body, Book, deskRow, bodyIn, order}
 use Rattle.relays.specs.Laws.{LawfulBody, LawfulBook, Related}
-use Rattle.relays.specs.Files.{AllBytes, file, joinAnswer}
+use Rattle.relays.specs.Files.{file, joinAnswer}
 use Rattle.relays.specs.Plans.{AllRelated, AllJoinable}
 use Rattle.relays.proofs.Bodies.{repeated, unlimited, less-lawful, more-lawful, first-tipped, last-tipped, first-lawful, last-lawful}
 
@@ -80,20 +81,20 @@ abbrev areBytes : List ℕ → Bool
 areBytes [] = true
 areBytes (x ∷ b) = ltb x 256 and areBytes b
 
-all-bytes : (b : List ℕ) → areBytes b ≡ true → AllBytes b
+all-bytes : (b : List ℕ) → areBytes b ≡ true → Octets b
 all-bytes [] e k = lit< tt
 all-bytes (x ∷ b) e zero = ltb-true _ _ (and-left _ _ e)
 all-bytes (x ∷ b) e (suc k) = all-bytes b (and-right _ _ e) k
 
-pub own-bytes : AllBytes own-file
+pub own-bytes : Octets own-file
 unfolding file open-loops open-numbers open-layout
 own-bytes = all-bytes own-file refl
 
-pub old-bytes : AllBytes old-copy
+pub old-bytes : Octets old-copy
 unfolding file open-loops open-numbers open-layout
 old-bytes = all-bytes old-copy refl
 
-pub new-bytes : AllBytes new-copy
+pub new-bytes : Octets new-copy
 unfolding file open-loops open-numbers open-layout
 new-bytes = all-bytes new-copy refl
 
@@ -111,7 +112,7 @@ pub two-joinable : AllJoinable twoFiles
 unfolding joinAnswer file open-loops open-refusals open-numbers open-pile open-layout open-rows open-opening open-book open-take
 two-joinable = record { of-bytes = of-bytes; meet-none = meet-none }
   where
-    of-bytes : (i : ℕ) → AllBytes (twoFiles i)
+    of-bytes : (i : ℕ) → Octets (twoFiles i)
     of-bytes zero = own-bytes
     of-bytes (suc i) = new-bytes
 

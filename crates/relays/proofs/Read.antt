@@ -6,6 +6,7 @@ use mathlib.Core.Bool.{true, false}
 use mathlib.Core.List.{List, []}
 use lib.ListN.{length, getD}
 use borrow.Author.Tests.{eqb-true}
+use Rattle.rules.specs.Numbers.{Octets}
 use Rattle.rules.specs.Pile.{Side, draw, tip, Pile, lawful, pileAnswer, sameOpening}
 use Rattle.rules.specs.Layout.{column, desks, piles, pileNumber, pileOf, rowOf, bodyRow}
 use Rattle.rules.specs.Rows.{isSplit, compared}
@@ -24,7 +25,7 @@ use Rattle.rules.proofs.File.LawfulBook.{Frame, readable-frame}
 use Rattle.rules.proofs.Take.InPlace.{OneBook, one-book-facts, copy-done}
 use Rattle.relays.specs.Join.{Body, deskRow, bodyIn, row, pileIn, order}
 use Rattle.relays.specs.Laws.{LawfulBody, LawfulBook, OneOpening, PassesCheck}
-use Rattle.relays.specs.Files.{AllBytes, bodyHeld, bookOf, file, joinAnswer}
+use Rattle.relays.specs.Files.{bodyHeld, bookOf, file, joinAnswer}
 use Rattle.relays.proofs.Checked.{Checked}
 use Rattle.relays.proofs.Written.{compared-order}
 
@@ -96,7 +97,7 @@ module _ (b : List ℕ) (readable : bookAnswer b ≡ 0) where
   abbrev Held : (n p : ℕ) → (ℕ → ℕ) → Type 0
   Held n p pileNumbers = (file n p pileNumbers (bookOf b) ≡ b) × LawfulBook n p (bookOf b) × PassesCheck n p (bookOf b)
 
-  held : AllBytes b → (n p : ℕ) (pileNumbers : ℕ → ℕ) → desks b ≡ n → piles b ≡ p → ((k : ℕ) → k < p → pileNumbers k ≡ pileNumber b k) → Held n p pileNumbers
+  held : Octets b → (n p : ℕ) (pileNumbers : ℕ → ℕ) → desks b ≡ n → piles b ≡ p → ((k : ℕ) → k < p → pileNumbers k ≡ pileNumber b k) → Held n p pileNumbers
   unfolding file
   held octets n p pileNumbers n-is p-is numbered =
       subst (λ (n : ℕ). Held n p pileNumbers) n-is
@@ -138,7 +139,7 @@ module _ (a b : List ℕ) (met : joinAnswer a b ≡ 0) where
       ∙ ap (λ (n : ℕ). bodyRow n (pileOf b k) 0) (one-book .same-n)
       ∙ sym (ap (λ (x : Body). x .opening) (body-of-file b k (subst (λ (p : ℕ). k < p) (one-book .same-p) l)))
 
-  module _ (octets-a : AllBytes a) (octets-b : AllBytes b) where
+  module _ (octets-a : Octets a) (octets-b : Octets b) where
     abbrev n : ℕ
     n = desks a
 
@@ -184,7 +185,7 @@ pub under-first : (P : ℕ → ℕ → Type 0) (a b : List ℕ) → joinAnswer a
 under-first P a b ab held =
     subst (λ (n : ℕ). P n (piles a)) (sym (one-book a b ab .same-n)) (subst (P (desks b)) (sym (one-book a b ab .same-p)) held)
 
-pub as-files : (P : List ℕ → List ℕ → List ℕ → Type 0) (a b c : List ℕ) → AllBytes a → AllBytes b → AllBytes c → joinAnswer a b ≡ 0 → joinAnswer a c ≡ 0
+pub as-files : (P : List ℕ → List ℕ → List ℕ → Type 0) (a b c : List ℕ) → Octets a → Octets b → Octets c → joinAnswer a b ≡ 0 → joinAnswer a c ≡ 0
     → (let at = file (desks a) (piles a) (pileNumber a) in P (at (bookOf a)) (at (bookOf b)) (at (bookOf c))) → P a b c
 as-files P a b c oa ob oc ab ac held =
     let at = file (desks a) (piles a) (pileNumber a) in

@@ -5,6 +5,7 @@ use mathlib.Core.Path.{_≡_, refl, ap, sym, subst, _∙_}
 use mathlib.Core.Bool.{Bool, false, cond}
 use mathlib.Core.List.{List}
 use borrow.Author.Tests.{eq-eqb}
+use Rattle.rules.specs.Numbers.{Octets}
 use Rattle.rules.specs.Loops.{_and_}
 use Rattle.rules.specs.Layout.{columns, desks, piles, pileNumber}
 use Rattle.rules.specs.Rows.{isCopyLater, compared}
@@ -16,7 +17,7 @@ use Rattle.rules.proofs.Take.Order.{at-least-transitive}
 use Rattle.rules.proofs.Take.InPlace.{taker-known, rows-pass}
 use Rattle.relays.specs.Join.{Book, row, joinRow, join}
 use Rattle.relays.specs.Laws.{Related}
-use Rattle.relays.specs.Files.{AllBytes, bookOf, file}
+use Rattle.relays.specs.Files.{bookOf, file}
 use Rattle.relays.specs.FileLaws.{Relayed, Relays}
 use Rattle.relays.proofs.Rows.{above, picked, bound}
 use Rattle.relays.proofs.Join.{row-of-join, commutative, associative, joins}
@@ -39,7 +40,7 @@ module _ (n p d : ℕ) (d<n : d < n) where
       subst (above n (row a k d)) (sym (row-of-join n p b c k d l d<n)) (picked n (above n (row a k d)) (ab k l) (ac k l))
 
 -- where a take was accepted its desk was not behind
-accepted-ahead : (d : ℕ) (a b : List ℕ) → AllBytes a → AllBytes b → takeAnswer d a b ≡ 0 → Ahead (desks a) (piles a) d (bookOf a) (bookOf b)
+accepted-ahead : (d : ℕ) (a b : List ℕ) → Octets a → Octets b → takeAnswer d a b ≡ 0 → Ahead (desks a) (piles a) d (bookOf a) (bookOf b)
 unfolding rowAnswer joinRow
 accepted-ahead d a b oa ob e k l =
     let met = take-meets-none d a b e in

@@ -11,6 +11,7 @@ use Rattle.rules.specs.Layout.{columns, column, earnedColumn, rowOf, bodyRow, b
 use Rattle.rules.specs.Rows.{rowOrder, isSplit, numbersOf, compared}
 use Rattle.rules.specs.Book.{bookAnswer}
 use Rattle.rules.specs.Take.{rowPart, ofCopy, sameBook, takeAnswer, taken}
+use Rattle.rules.proofs.File.Written.{open-head}
 use Rattle.rules.proofs.Loops.Pieces.{getD-list}
 use Rattle.rules.proofs.Loops.Refusals.{not-met, none-met, first-none}
 use Rattle.rules.proofs.Pile.Facts.{facts}
@@ -117,7 +118,7 @@ module _ (n p : ℕ) where
           (merged a b (ab .related)) d d<n (λ k l. row-le a b k d (ahead k l))
 
       pub join-accepted : joinAnswer (at a) (at b) ≡ 0
-      unfolding joinAnswer file bookBytes
+      unfolding joinAnswer file open-head
       join-accepted =
           none-met (file-readable a (ab .first))
           (none-met (ap ofCopy (file-readable b (ab .second)))

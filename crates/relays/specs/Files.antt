@@ -13,10 +13,6 @@ use Rattle.rules.specs.Book.{bookAnswer}
 use Rattle.rules.specs.Take.{rowPart, ofCopy, sameBook}
 use Rattle.relays.specs.Join.{Body, Book, bodyIn, pileIn, join}
 
--- A file is a list of bytes: none of its numbers is above 255.
-abbrev pub AllBytes : List ℕ → Type 0
-AllBytes b = (k : ℕ) → getD b k 0 < 256
-
 -- the book that a file holds
 abbrev pub bodyHeld : ℕ → Pile → Body
 bodyHeld n p = record { opening = bodyRow n p 0; rows = list n (λ i. bodyRow n p (suc i)) }

@@ -4,10 +4,11 @@ use Prim.Native.Nat.{ℕ}
 use mathlib.Core.Path.{_≡_}
 use mathlib.Core.Logic.{_⊎_}
 use mathlib.Core.List.{List}
+use Rattle.rules.specs.Numbers.{Octets}
 use Rattle.rules.specs.Take.{taken}
 use Rattle.relays.specs.Join.{Book, join}
 use Rattle.relays.specs.Laws.{Related, Joins}
-use Rattle.relays.specs.Files.{AllBytes, joinAnswer}
+use Rattle.relays.specs.Files.{joinAnswer}
 use Rattle.relays.specs.FileLaws.{FileJoins}
 
 -- a book by its number, or what one plan gives joined with what another gives
@@ -50,7 +51,7 @@ takenByPlan files (relay t u) = taken (takenByPlan files t) (takenByPlan files u
 
 -- readable files that meet neither 30 nor 31 with each other
 pub record AllJoinable (files : ℕ → List ℕ) : Type 0 where
-  pub of-bytes : (i : ℕ) → AllBytes (files i)
+  pub of-bytes : (i : ℕ) → Octets (files i)
   pub meet-none : (i j : ℕ) → joinAnswer (files i) (files j) ≡ 0
 
 -- On bytes: two plans that name the same files leave the same bytes.

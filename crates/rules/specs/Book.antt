@@ -19,9 +19,9 @@ use Rattle.rules.specs.Opening.{rising}
 unfoldable pub headSound : Head → Bool
 headSound h = eqb (h .version) 1 and sizesInRange (h .desks) (h .piles) and eqb (h .fourth) 0
 
-unfoldable pub contentsSound : List ℕ → Bool
-contentsSound b =
-    rising (piles b) (pileNumber b) and every (piles b) (λ k. eqb (position b k) (bodyAt (headOf b) k))
+-- the pile numbers rise, and each body is where its head says
+unfoldable pub contentsSound : Head → List ℕ → Bool
+contentsSound h b = rising (h .piles) (pileNumber b) and every (h .piles) (λ k. eqb (position b k) (bodyAt h k))
 
 -- "Book bytes", then "Each body, in file order"
 unfoldable pub bookAnswer : List ℕ → ℕ
@@ -29,7 +29,7 @@ bookAnswer b =
     1 when ltb (length b) 4
     orElse 2 when not (headSound (headOf b))
     orElse 3 when not (eqb (length b) (bookLength (headOf b)))
-    orElse 4 when not (contentsSound b)
+    orElse 4 when not (contentsSound (headOf b) b)
     orElse first (piles b) (λ k. pileAnswer (desks b) (pileOf b k))
 
 -- where a pile number stands in the contents; p where it is absent

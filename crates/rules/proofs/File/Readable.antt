@@ -49,7 +49,7 @@ unfolding bookAnswer headSound contentsSound
 book-facts b e =
     let head : headSound (headOf b) ≡ true = when-not-done _ _ (orElse-first _ _ (orElse-rest _ _ e)) in
     let rest = orElse-rest _ _ (orElse-rest _ _ e) in
-    let contents : contentsSound b ≡ true = when-not-done _ _ (orElse-first _ _ (orElse-rest _ _ rest)) in
+    let contents : contentsSound (headOf b) b ≡ true = when-not-done _ _ (orElse-first _ _ (orElse-rest _ _ rest)) in
     record {
       long = ltb-false _ _ (when-done _ _ (orElse-first _ _ e));
       version = eqb-true _ _ (and-left _ _ head);

@@ -10,13 +10,14 @@ use lib.Dec.{eqb}
 use borrow.Author.Tests.{eq-eqb, ne-eqb}
 use Rattle.rules.specs.Loops.{every}
 use Rattle.rules.specs.Layout.{bodyAt, pileNumber, position}
+use Rattle.rules.specs.Book.{contentsSound}
 use Rattle.rules.proofs.Loops.Logic.{and-both, and-left-fails, and-right-fails}
 use Rattle.rules.proofs.Loops.Every.{every-next, every-stops, every-cong}
 use Rattle.rules.proofs.File.BodySize.{size-in-range}
 use Rattle.rules.proofs.File.Positions.{body-start}
 use Rattle.rules.proofs.File.Risen.{Risen, none-risen, next-risen, not-risen, all-risen}
 use Rattle.layout.specs.Positions.{asHead}
-use Rattle.layout.proofs.Sizes.{body-most, position-most, position-is}
+use Rattle.layout.proofs.Sizes.{size-most, position-most, position-is}
 use Rattle.layout.proofs.Entries.{entry-says-number, entry-says-position}
 use borrow.Author.Needs.{needs}
 use Rattle.book.proofs.contents.contents_sound.Statement.{statement}
@@ -51,14 +52,16 @@ number-is : (c : tie.After-entry-number Inv-loop μ-loop) → let at = c .before
     c .entry-number .result ≡ pileNumber (start at .args .book .now) (at .loop .k)
 number-is c =
     let at = c .before .before .before .before in
-    c .entry-number .ensures ∙ entry-says-number (start at .args .book .now) (at .loop .k) (c .before .before .entry-at .ensures) (omega arith)
+    let from = c .before .before .entry-at .result in
+    c .entry-number .ensures ∙ entry-says-number (start at .args .book .now) (at .loop .k) (from + 6 - from) (c .before .before .entry-at .ensures) (omega arith)
 
 position-at : (c : tie.After-entry-position Inv-loop μ-loop) → let at = c .before .before .before .before .before .before in
     c .entry-position .result ≡ position (start at .args .book .now) (at .loop .k)
 position-at c =
     let entry = c .before .before .before in
     let at = entry .before .before .before in
-    c .entry-position .ensures ∙ entry-says-position (start at .args .book .now) (at .loop .k) (entry .before .entry-at .ensures) (omega arith)
+    let from = entry .before .entry-at .result in
+    c .entry-position .ensures ∙ entry-says-position (start at .args .book .now) (at .loop .k) (from + 6 - from) (entry .before .entry-at .ensures) (omega arith)
 
 body-length-requires : tie.Need-body-length-requires Inv-loop μ-loop
 body-length-requires c κs = search needs
@@ -89,6 +92,7 @@ entry-number-requires : tie.Need-entry-number-requires Inv-loop μ-loop
 entry-number-requires c κs = search needs
 
 returns : tie.Need-returns Inv-loop μ-loop
+unfolding contentsSound
 returns c =
     let now = c .before .before .before .before in
     sym (and-left-fails (not-risen (now .before .loop .inv .0) (now .loop-test .taken) (number-is (c .before)) (inl (c .if1 .taken))) _)
@@ -100,10 +104,10 @@ cast-if2 : tie.Need-cast-if2 Inv-loop μ-loop
 cast-if2 c = search needs
 
 returns-2 : tie.Need-returns-2 Inv-loop μ-loop
+unfolding contentsSound
 returns-2 c =
     let at = c .before .before .before .before .before .before .before in
     sym (and-right-fails _ (every-stops _ _ (at .loop .k) (search needs)
-    (rw (every-cong (at .loop .k) (λ j _. ap (eqb (position _ j)) (expects at j))) at (at .loop .inv .1))
     (ne-eqb _ _ (λ e. c .if2 .taken (position-at (c .before) ∙ e ∙ sym (at .loop .inv .2 ∙ expects at (at .loop .k)))))))
 
 add-expected : tie.Need-add-expected Inv-loop μ-loop
@@ -116,6 +120,7 @@ add-expected c =
       expects at (at .loop .k),
       position-is (asHead (s .args .head)) (at .loop .k) (s .pre .sizes .desks-least) (s .pre .sizes .desks-most),
       position-most (asHead (s .args .head)) (at .loop .k) (omega arith) (omega arith),
+      size-most (s .args .head .desks),
       at .before .before .body-length .ensures,
     )
 
@@ -137,6 +142,7 @@ loop-again c =
     )
 
 returns-3 : tie.Need-returns-3 Inv-loop μ-loop
+unfolding contentsSound
 returns-3 c =
     let at = c .before in
     let done : at .loop .k ≡ start at .args .head .piles = omega arith in

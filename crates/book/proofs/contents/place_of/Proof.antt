@@ -31,7 +31,8 @@ number-is : (c : tie.After-entry-number Inv-loop μ-loop) → let at = c .before
     c .entry-number .result ≡ pileNumber (at .before .before .args .book .now) (at .loop .k)
 number-is c =
     let at = c .before .before .before .before in
-    c .entry-number .ensures ∙ entry-says-number (at .before .before .args .book .now) (at .loop .k) (c .before .before .entry-at .ensures) (omega arith)
+    let from = c .before .before .entry-at .result in
+    c .entry-number .ensures ∙ entry-says-number (at .before .before .args .book .now) (at .loop .k) (from + 6 - from) (c .before .before .entry-at .ensures) (omega arith)
 
 loop-holds : tie.Need-loop-holds Inv-loop μ-loop
 unfolding index

@@ -20,10 +20,10 @@ start c = c .before .before
 sought : (c : tie.Else1) → SoughtBody (start c .args .desk) (start c .args .book .now) (start c .args .found .desks) (start c .args .found .start)
 sought c = start c .pre (c .if1 .left)
 
-read : (c : tie.After-rights-in) → let a = start (c .before) .args in
+read : (c : tie.After-rights-in) → let a = start (c .before .before) .args in
     c .rights-in .result ≡ rightsIn (sideOf (a .side)) (desks (a .book .now)) (a .found .start) (a .book .now) (a .desk)
-read c = let a = start (c .before) .args in
-    c .rights-in .ensures ∙ ap (λ (n : ℕ). rightsIn (sideOf (a .side)) n (a .found .start) (a .book .now) (a .desk)) (sought (c .before) .count)
+read c = let a = start (c .before .before) .args in
+    c .rights-in .ensures ∙ ap (λ (n : ℕ). rightsIn (sideOf (a .side)) n (a .found .start) (a .book .now) (a .desk)) (sought (c .before .before) .count)
 
 returns : tie.Need-returns
 returns c = reply-refused _ _ (c .if1 .taken)
@@ -35,10 +35,10 @@ rights-in-requires : tie.Need-rights-in-requires
 rights-in-requires c κs = search needs
 
 cast-t9 : tie.Need-cast-t9
-cast-t9 c = search (needs, rights-small _ _ (sought (c .before) .sound) _ (read c))
+cast-t9 c = search (needs, rights-small _ _ (sought (c .before .before) .sound) _ (read c))
 
 returns-2 : tie.Need-returns-2
-returns-2 c = ap value (rights-read _ _ (sought (c .before) .sound) _ (read c)) ∙ reply-value _ _ (c .before .if1 .left)
+returns-2 c = ap value (rights-read _ _ (sought (c .before .before) .sound) _ (read c)) ∙ reply-value _ _ (c .before .before .if1 .left)
 
 pub rights-of-spec : {M : Type 1} → statement M
 rights-of-spec = tie.close (tie.spec returns cast-rights-in rights-in-requires cast-t9 returns-2)
