@@ -11,24 +11,17 @@ use lib.Dec.{leb}
 use borrow.Author.Tests.{le-leb, lt-leb}
 use Rattle.rules.specs.Loops.{_and_, every}
 use Rattle.rules.specs.Pile.{Side, draw, tip, other, bothSides, Pile, credit, debit}
-use Rattle.rules.specs.Layout.{earnedColumn}
 use Rattle.rules.proofs.Loops.Logic.{and-true, and-right-fails}
-use Rattle.audit.specs.Account.{Passed, sideOf}
+use Rattle.audit.specs.Inner.{SideRead}
 
-module _ {p : Pile} {s : Side} {n : ℕ} {totals made : List ℕ} (passed : Passed p s n n totals made) (i : ℕ) (i<n : i < n) where
+module _ {p : Pile} {s : Side} {n : ℕ} {totals made : List ℕ} (read : SideRead p s n n totals made) (i : ℕ) (i<n : i < n) where
   pub credit-at : {x : ℕ} → x ≡ p .earned s i → getD totals i 0 + x ≡ credit n p s i
   unfolding credit
-  credit-at e = omega (arith, passed .received i i<n)
+  credit-at e = omega (arith, read .received i i<n)
 
   pub debit-at : {x : ℕ} → x ≡ p .earned (other s) i → getD made i 0 + x ≡ debit n p s i
   unfolding debit
-  debit-at e = ap₂ _+_ (passed .given i i<n) e
-
--- the columns of what a side earned, and of what it spent, by the side's number
-pub side-columns : (side : ℕ) → side ≤ 1 → (earnedColumn (sideOf side) ≡ side) × (earnedColumn (other (sideOf side)) ≡ 1 - side)
-side-columns zero l = (refl, refl)
-side-columns (suc zero) l = (refl, refl)
-side-columns (suc (suc n)) l = absurd (omega arith)
+  debit-at e = ap₂ _+_ (read .given i i<n) e
 
 -- is each debit of a desk within its credit?
 abbrev pub covers : ℕ → Pile → ℕ → Bool

@@ -1,46 +1,46 @@
--- Where the numbers of a body stand, as the loops over its rows reach them.
+-- The numbers of a body by row and column: that they are there, and which number of the pile each is.
 -- Assumes nothing.
-use Prim.Native.Nat.{ℕ, suc, _+_, _*_, _≤_, _<_}
+use Prim.Native.Nat.{ℕ, _+_, _≤_, _<_}
+use native.Mathlib.Nat.{add-mul, one-mul}
 use native.Mathlib.Numerals.{add-one}
 use native.Mathlib.Omega.{arith}
-use mathlib.Core.Path.{_≡_, ap, _∙_}
+use mathlib.Core.Path.{_≡_, ap, ap₂, _∙_}
 use mathlib.Core.List.{List}
-use lib.ListN.{length}
 use Rattle.rules.specs.Numbers.{number}
 use Rattle.rules.specs.Pile.{Side, draw, tip}
-use Rattle.rules.specs.Layout.{rowLength, cellAt, earnedColumn, bodyView}
-use Rattle.rules.proofs.File.Body as body
-use Rattle.audit.specs.Account.{BodyIn}
+use Rattle.rules.specs.Layout.{columns, column, earnedColumn, rowLength, cellAt}
+use Rattle.rules.proofs.File.Body.{column-below}
+use Rattle.layout.specs.Inner.{BodyWithin, firstBody}
+use Rattle.audit.specs.Inner.{CellWithin}
 
--- how far a side's gives, or shares, stand behind those of draw
-abbrev pub sideAt : ℕ → Side → ℕ
-sideAt n draw = 0
-sideAt n tip = 4 * n
+earned-below : (n : ℕ) (s : Side) → earnedColumn s < columns n
+earned-below n draw = omega arith
+earned-below n tip = omega arith
 
-module _ (n : ℕ) (b : List ℕ) (at : ℕ) where
-  -- a place of row i + 1, and of the opening
-  cell-at : (i c : ℕ) → at + cellAt n (suc i) c ≡ at + (i + 1) * (8 * (n + 1)) + c * 4
-  unfolding cellAt rowLength
-  cell-at i c = omega (arith, ap (λ (k : ℕ). k * (8 * (n + 1))) (add-one i))
+-- a column of a desk's share or gives, and one of what earned rights
+module _ {n row : ℕ} {b : List ℕ} (body : BodyWithin n 0 b) (few : row ≤ n) (s : Side) {c : ℕ} where
+  pub on-column : {j : ℕ} → j < n → c ≡ column n s j → CellWithin n row c b
+  on-column {j} j<n is = record { body = body; row-most = few; column-below = omega (arith, is, column-below n s j j<n) }
 
-  pub give-at : (s : Side) (i j : ℕ) {x to : ℕ} → x ≡ number 4 b to → to ≡ at + (i + 1) * (8 * (n + 1)) + 8 + sideAt n s + j * 4 → x ≡ bodyView n b at .give s i j
-  give-at draw i j e place = e ∙ ap (number 4 b) (omega (arith, cell-at i (2 + j)))
-  give-at tip i j e place = e ∙ ap (number 4 b) (omega (arith, cell-at i (2 + (n + j))))
+  pub on-earned : c ≡ earnedColumn s → CellWithin n row c b
+  on-earned is = record { body = body; row-most = few; column-below = omega (arith, is, earned-below n s) }
 
-  pub share-at : (s : Side) (j : ℕ) {x to : ℕ} → x ≡ number 4 b to → to ≡ at + 8 + sideAt n s + j * 4 → x ≡ bodyView n b at .share s j
-  unfolding cellAt
-  share-at draw j e place = e ∙ ap (number 4 b) (omega arith)
-  share-at tip j e place = e ∙ ap (number 4 b) (omega arith)
+-- what is read in the opening, and in the row of desk i
+module _ (n : ℕ) (b : List ℕ) (s : Side) {x c : ℕ} where
+  pub share-is : (j : ℕ) → x ≡ number 4 b (cellAt n 0 c) → c ≡ column n s j → x ≡ firstBody n b .share s j
+  share-is j e is = e ∙ ap (λ (k : ℕ). number 4 b (cellAt n 0 k)) is
 
-  pub earned-at : (s : Side) (i : ℕ) {x to : ℕ} → x ≡ number 4 b to → to ≡ at + (i + 1) * (8 * (n + 1)) + 4 * earnedColumn s → x ≡ bodyView n b at .earned s i
-  earned-at s i e place = e ∙ ap (number 4 b) (omega (arith, cell-at i (earnedColumn s)))
+  pub give-is : (i j : ℕ) → x ≡ number 4 b (cellAt n (i + 1) c) → c ≡ column n s j → x ≡ firstBody n b .give s i j
+  give-is i j e is = e ∙ ap₂ (λ (r k : ℕ). number 4 b (cellAt n r k)) (add-one i) is
 
--- the row of desk i lies within the bytes
-pub row-within : {n at i : ℕ} {b : List ℕ} → BodyIn n at b → i < n → at + (i + 1) * (8 * (n + 1)) + 8 * (n + 1) ≤ length b
-unfolding rowLength
-row-within {n} {i = i} p l = omega (arith, body.row-within n (i + 1) (omega arith))
+  pub earned-is : (i : ℕ) → x ≡ number 4 b (cellAt n (i + 1) c) → c ≡ earnedColumn s → x ≡ firstBody n b .earned s i
+  earned-is i e is = e ∙ ap₂ (λ (r k : ℕ). number 4 b (cellAt n r k)) (add-one i) is
 
--- and so does the opening
-pub opening-within : {n at : ℕ} {b : List ℕ} → BodyIn n at b → at + 8 * (n + 1) ≤ length b
-unfolding rowLength
-opening-within {n} p = omega (arith, body.row-within n 0 (omega arith))
+-- a row that starts where its first number stands: its columns, and where the next row starts
+pub in-row : (n i c : ℕ) {row : ℕ} → row ≡ cellAt n (i + 1) 0 → row + cellAt n 0 c ≡ cellAt n (i + 1) c
+unfolding cellAt
+in-row n i c e = omega (arith, e)
+
+pub row-after : (n i : ℕ) {row : ℕ} → row ≡ cellAt n (i + 1) 0 → row + rowLength n ≡ cellAt n (i + 1 + 1) 0
+unfolding cellAt
+row-after n i e = omega (arith, e, add-mul (i + 1) 1 (rowLength n), one-mul (rowLength n))

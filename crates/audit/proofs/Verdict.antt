@@ -13,7 +13,9 @@ use Rattle.rules.specs.Loops.{_and_, sum, every}
 use Rattle.rules.specs.Numbers.{number}
 use Rattle.rules.specs.Refusals.{_when_, _orElse_}
 use Rattle.rules.specs.Pile.{Side, draw, tip, Pile, credit, tallyLimit, lawful, openingLawful, talliesLawful, pileAnswer}
-use Rattle.rules.specs.Layout.{rowLength, cellAt, bodyView}
+use Rattle.rules.specs.Layout.{columns, column, cellAt}
+use Rattle.rules.proofs.File.Body.{by-column, column-below}
+use Rattle.layout.specs.Inner.{firstBody}
 use Rattle.rules.proofs.Loops.Logic.{same, decided, and-left, and-right, and-both}
 use Rattle.rules.proofs.Loops.Every.{every-at, every-all, every-cong}
 use Rattle.rules.proofs.Loops.Sums.{sum-cong, sum-zero, term-le}
@@ -82,49 +84,28 @@ module _ (n : ℕ) (p : Pile) where
   unfolding pileAnswer _when_ _orElse_
   answer-0 o t e = rw (o, t, e)
 
-module _ (n at : ℕ) (b : List ℕ) where
+module _ (n : ℕ) (b : List ℕ) where
   abbrev P : Pile
-  P = bodyView n b at
+  P = firstBody n b
 
-  -- the row of desk i as a loop over its bytes reads it: what it tipped, drew and gave of draw; what it gave of tip
-  abbrev front : ℕ → ℕ → Bool
-  front i k = leb (number 4 b (at + (i + 1) * rowLength n + k * 4)) tallyLimit
-
-  abbrev back : ℕ → ℕ → Bool
-  back i k = leb (number 4 b (at + (i + 1) * rowLength n + 8 + 4 * n + k * 4)) tallyLimit
-
-  front-at : (i c : ℕ) → leb (number 4 b (at + cellAt n (suc i) c)) tallyLimit ≡ front i c
-  unfolding cellAt
-  front-at i c = ap (λ (k : ℕ). leb (number 4 b k) tallyLimit) (omega (arith, ap (λ (k : ℕ). k * rowLength n) (add-one i)))
-
-  back-at : (i j : ℕ) → leb (P .give tip i j) tallyLimit ≡ back i j
-  unfolding cellAt
-  back-at i j = ap (λ (k : ℕ). leb (number 4 b k) tallyLimit) (omega (arith, ap (λ (k : ℕ). k * rowLength n) (add-one i)))
+  -- is a number of the row of desk i within the limit of a tally
+  abbrev small : ℕ → ℕ → Bool
+  small i c = leb (number 4 b (cellAt n (suc i) c)) tallyLimit
 
   -- where no desk gave itself anything, these numbers' limits are all that is left of the tests on the tallies
-  pub read-lawful : ownGives n P ≡ 0 → every n (λ i. every (2 + n) (front i) and every n (back i)) ≡ every n (talliesLawful n P)
+  pub read-lawful : ownGives n P ≡ 0 → every n (λ i. every (columns n) (small i)) ≡ every n (talliesLawful n P)
   read-lawful z =
       every-cong n
-      (λ i l. same _ _ (λ e. row-passes n P z i l (earned i e) (given i e))
-      (λ e. and-both (every-all (2 + n) (in-front i e)) (every-all n (in-back i e))))
+      (λ i l. same _ _ (λ e. row-passes n P z i l (earned i e) (given i e)) (λ e. every-all (columns n) (number-small i e)))
     where
-      earned : (i : ℕ) → every (2 + n) (front i) and every n (back i) ≡ true → (s : Side) → leb (P .earned s i) tallyLimit ≡ true
-      earned i e draw = front-at i 0 ∙ every-at (2 + n) (front i) (and-left _ _ e) 0 (omega arith)
-      earned i e tip = front-at i 1 ∙ every-at (2 + n) (front i) (and-left _ _ e) 1 (omega arith)
+      earned : (i : ℕ) → every (columns n) (small i) ≡ true → (s : Side) → leb (P .earned s i) tallyLimit ≡ true
+      earned i e draw = every-at (columns n) (small i) e 0 (omega arith)
+      earned i e tip = every-at (columns n) (small i) e 1 (omega arith)
 
-      given : (i : ℕ) → every (2 + n) (front i) and every n (back i) ≡ true → (s : Side) (j : ℕ) → j < n → leb (P .give s i j) tallyLimit ≡ true
-      given i e draw j m = front-at i (2 + j) ∙ every-at (2 + n) (front i) (and-left _ _ e) (2 + j) (omega arith)
-      given i e tip j m = back-at i j ∙ every-at n (back i) (and-right _ _ e) j m
+      given : (i : ℕ) → every (columns n) (small i) ≡ true → (s : Side) (j : ℕ) → j < n → leb (P .give s i j) tallyLimit ≡ true
+      given i e s j m = every-at (columns n) (small i) e (column n s j) (column-below n s j m)
 
-      gives : (i : ℕ) → talliesLawful n P i ≡ true → (s : Side) (j : ℕ) → j < n → leb (P .give s i j) tallyLimit ≡ true
-      gives i e s j m = every-at n _ (and-left _ _ (and-right _ _ (row-at n P i e s))) j m
-
-      in-front : (i : ℕ) → talliesLawful n P i ≡ true → (k : ℕ) → k < 2 + n → front i k ≡ true
-      in-front i e zero l = sym (front-at i 0) ∙ and-left _ _ (row-at n P i e draw)
-      in-front i e (suc zero) l = sym (front-at i 1) ∙ and-left _ _ (row-at n P i e tip)
-      in-front i e (suc (suc j)) l =
-          let two : suc (suc j) ≡ 2 + j = omega arith in
-          ap (front i) two ∙ sym (front-at i (2 + j)) ∙ gives i e draw j (omega arith)
-
-      in-back : (i : ℕ) → talliesLawful n P i ≡ true → (k : ℕ) → k < n → back i k ≡ true
-      in-back i e k l = sym (back-at i k) ∙ gives i e tip k l
+      number-small : (i : ℕ) → talliesLawful n P i ≡ true → (c : ℕ) → c < columns n → small i c ≡ true
+      number-small i e =
+          by-column n (λ c. small i c ≡ true) (and-left _ _ (row-at n P i e draw)) (and-left _ _ (row-at n P i e tip))
+          (λ s j m. every-at n _ (and-left _ _ (and-right _ _ (row-at n P i e s))) j m)

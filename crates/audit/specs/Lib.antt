@@ -1,2 +1,2 @@
-pub mod Account
 pub mod Audits
+pub mod Inner

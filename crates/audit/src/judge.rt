@@ -1,18 +1,21 @@
 // The lines of the table for one body, from its account.
-use crate::limits::TALLY_LIMIT;
-use crate::limits::TOP_LIMIT;
-use crate::runs::word;
+use crate::cells::cell;
+use crate::cells::word;
 use crate::shares::read_shares_of;
 use crate::tallies::read_rows_of;
 use crate::tallies::rows_within;
+use layout::cells::cell_at;
+use layout::cells::earned_column;
+use layout::lengths::row_length;
+use layout::limits::TALLY_LIMIT;
+use layout::limits::TOP_LIMIT;
 ghost use mathlib.Core.Path.{_≡_};
 ghost use Prim.Native.Nat.{_+_, _-_};
-ghost use lib.ListN.{replicate};
 ghost use lib.Dec.{leb, eqb};
 ghost use Rattle.rules.specs.Loops.{_and_, sum};
 ghost use Rattle.rules.specs.Pile.{draw, tip, topLimit, credit, lawful, openingLawful, pileAnswer};
-ghost use Rattle.rules.specs.Layout.{bodyView};
-ghost use Rattle.audit.specs.Account.{BodyIn, Passed};
+ghost use Rattle.layout.specs.Inner.{BodyWithin, firstBody};
+ghost use Rattle.audit.specs.Inner.{SideRead, ListsLong};
 
 // floor ≤ top ≤ 10,000,000, and all shares add up to top - floor.
 fn opening_sound(floor: u64, top: u64, shares: u64) -> bool
@@ -33,29 +36,30 @@ struct Balance {
     pub credits: u64,
 }
 
+// The rows are found one behind the other, and not by their numbers: measured, that is faster.
 fn balance_of(
-    bytes: &[u8],
-    at: usize,
-    n: usize,
+    body: &[u8],
+    n: u8,
     draws: &[u64],
     draw_given: &[u64],
     tips: &[u64],
     tip_given: &[u64],
 ) -> Balance
-    requires body { ⌜ BodyIn n at (now bytes) ⌝ }
-    requires draws { ⌜ Passed (bodyView n (now bytes) at) draw n n (now draws) (now «draw_given») ⌝ }
-    requires tips { ⌜ Passed (bodyView n (now bytes) at) tip n n (now tips) (now «tip_given») ⌝ }
-    ensures covered { λ r. ⌜ r .covered ≡ lawful n (bodyView n (now (bytes .entry)) at) ⌝ }
-    ensures credits { λ r. ⌜ r .credits ≡ sum n (λ i. credit n (bodyView n (now (bytes .entry)) at) draw i + credit n (bodyView n (now (bytes .entry)) at) tip i) ⌝ }
+    requires body { ⌜ BodyWithin n 0 (now body) ⌝ }
+    requires draws { ⌜ SideRead (firstBody n (now body)) draw n n (now draws) (now «draw_given») ⌝ }
+    requires tips { ⌜ SideRead (firstBody n (now body)) tip n n (now tips) (now «tip_given») ⌝ }
+    ensures covered { λ r. ⌜ r .covered ≡ lawful n (firstBody n (now (body .entry))) ⌝ }
+    ensures credits { λ r. ⌜ r .credits ≡ sum n (λ i. credit n (firstBody n (now (body .entry))) draw i + credit n (firstBody n (now (body .entry))) tip i) ⌝ }
 {
-    let row = 8 * (n + 1);
+    let desks = n as usize;
+    let size = row_length(n);
     let mut covered = true;
     let mut credits: u64 = 0;
+    let mut row = cell_at(n, 1, 0);
     let mut i = 0;
-    while i < n {
-        let from = at + (i + 1) * row;
-        let tipped = word(bytes, from);
-        let drawn = word(bytes, from + 4);
+    while i < desks {
+        let tipped = word(body, row + cell_at(n, 0, earned_column(0)));
+        let drawn = word(body, row + cell_at(n, 0, earned_column(1)));
         let draw_credit = draws[i] + tipped;
         let tip_credit = tips[i] + drawn;
         if draw_credit < draw_given[i] + drawn {
@@ -65,19 +69,20 @@ fn balance_of(
             covered = false;
         }
         credits = credits + draw_credit + tip_credit;
+        row += size;
         i += 1;
     }
     Balance { covered, credits }
 }
 
 // The lines of the table in their order, from what was found.
-fn verdict(bytes: &[u8], at: usize, n: usize, opening: bool, own: u64, balance: Balance) -> u8
-    requires body { ⌜ BodyIn n at (now bytes) ⌝ }
-    requires opening { ⌜ opening ≡ openingLawful n (bodyView n (now bytes) at) ⌝ }
-    requires own { ⌜ own ≡ sum n (λ i. bodyView n (now bytes) at .give draw i i + bodyView n (now bytes) at .give tip i i) ⌝ }
-    requires covered { ⌜ balance .covered ≡ lawful n (bodyView n (now bytes) at) ⌝ }
-    requires credits { ⌜ balance .credits ≡ sum n (λ i. credit n (bodyView n (now bytes) at) draw i + credit n (bodyView n (now bytes) at) tip i) ⌝ }
-    ensures { λ r. ⌜ r ≡ pileAnswer n (bodyView n (now (bytes .entry)) at) ⌝ }
+fn verdict(body: &[u8], n: u8, opening: bool, own: u64, balance: Balance) -> u8
+    requires body { ⌜ BodyWithin n 0 (now body) ⌝ }
+    requires opening { ⌜ opening ≡ openingLawful n (firstBody n (now body)) ⌝ }
+    requires own { ⌜ own ≡ sum n (λ i. firstBody n (now body) .give draw i i + firstBody n (now body) .give tip i i) ⌝ }
+    requires covered { ⌜ balance .covered ≡ lawful n (firstBody n (now body)) ⌝ }
+    requires credits { ⌜ balance .credits ≡ sum n (λ i. credit n (firstBody n (now body)) draw i + credit n (firstBody n (now body)) tip i) ⌝ }
+    ensures { λ r. ⌜ r ≡ pileAnswer n (firstBody n (now (body .entry))) ⌝ }
 {
     if !opening {
         return 5;
@@ -88,7 +93,7 @@ fn verdict(bytes: &[u8], at: usize, n: usize, opening: bool, own: u64, balance: 
     // A tally above its limit would be above it in a credit too, and so in what they all come to.
     let credits = balance.credits;
     if TALLY_LIMIT < credits {
-        if !rows_within(bytes, at, n) {
+        if !rows_within(body, n) {
             return 6;
         }
     }
@@ -99,26 +104,23 @@ fn verdict(bytes: &[u8], at: usize, n: usize, opening: bool, own: u64, balance: 
     0
 }
 
-// The first refusal of a body: 5, 6 or 7, or 0. The lists are lent empty, and have then what the body's rows come to.
+// The first refusal of a body: 5, 6 or 7, or 0. What the lists have before is of no account: they are lent so that they are made once for many bodies.
 pub(crate) fn body_answer(
-    bytes: &[u8],
-    at: usize,
-    n: usize,
+    body: &[u8],
+    n: u8,
     draws: &mut [u64],
     draw_given: &mut [u64],
     tips: &mut [u64],
     tip_given: &mut [u64],
 ) -> u8
-    requires body { ⌜ BodyIn n at (now bytes) ⌝ }
-    requires draws { ⌜ (now draws ≡ replicate 8 0) × (now «draw_given» ≡ replicate 8 0) ⌝ }
-    requires tips { ⌜ (now tips ≡ replicate 8 0) × (now «tip_given» ≡ replicate 8 0) ⌝ }
-    ensures answer { λ r. ⌜ r ≡ pileAnswer n (bodyView n (now (bytes .entry)) at) ⌝ }
-    ensures draws { λ _. ⌜ Passed (bodyView n (now (bytes .entry)) at) draw n n (now (draws .exit)) (now («draw_given» .exit)) ⌝ }
-    ensures tips { λ _. ⌜ Passed (bodyView n (now (bytes .entry)) at) tip n n (now (tips .exit)) (now («tip_given» .exit)) ⌝ }
+    requires { ⌜ BodyWithin n 0 (now body) × ListsLong (now draws) (now «draw_given») (now tips) (now «tip_given») ⌝ }
+    ensures answer { λ r. ⌜ r ≡ pileAnswer n (firstBody n (now (body .entry))) ⌝ }
+    ensures lists { λ _. ⌜ ListsLong (now (draws .exit)) (now («draw_given» .exit)) (now (tips .exit)) (now («tip_given» .exit)) ⌝ }
 {
-    let shares = read_shares_of(bytes, at, n, draws, tips);
-    let own = read_rows_of(bytes, at, n, draws, draw_given, tips, tip_given);
-    let balance = balance_of(bytes, at, n, draws, draw_given, tips, tip_given);
-    let opening = opening_sound(word(bytes, at), word(bytes, at + 4), shares);
-    verdict(bytes, at, n, opening, own, balance)
+    let shares = read_shares_of(body, n, draws, tips);
+    let own = read_rows_of(body, n, draws, draw_given, tips, tip_given);
+    let balance = balance_of(body, n, draws, draw_given, tips, tip_given);
+    let floor = cell(body, n, 0, earned_column(0));
+    let top = cell(body, n, 0, earned_column(1));
+    verdict(body, n, opening_sound(floor, top, shares), own, balance)
 }

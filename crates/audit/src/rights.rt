@@ -1,41 +1,26 @@
-// One desk's rights, and what they are made of.
-use crate::PLACES;
-use crate::runs::word;
+// Where a body is there, and one desk's rights in it.
+use crate::cells::cell;
+use layout::cells::earned_column;
+use layout::cells::side_column;
+use layout::lengths::body_length;
 ghost use mathlib.Core.Path.{_≡_};
-ghost use Prim.Native.Nat.{_+_, _-_, _*_, _≤_, _<_};
-ghost use lib.ListN.{length};
-ghost use Rattle.rules.specs.Loops.{sum};
-ghost use Rattle.rules.specs.Numbers.{number};
-ghost use Rattle.rules.specs.Pile.{rights};
-ghost use Rattle.rules.specs.Layout.{bodyView};
-ghost use Rattle.audit.specs.Account.{BodyIn, Strided, sideOf};
+ghost use Prim.Native.Nat.{_-_, _≤_, _<_};
+ghost use Rattle.rules.specs.Pile.{sideOf, rights};
+ghost use Rattle.layout.specs.Inner.{BodyWithin, firstBody};
 ghost use Rattle.audit.specs.Audits.{bodyThere};
 
 // Is a body of n desks there from a position on?
-pub(crate) fn body_there(length: usize, at: usize, n: usize) -> bool
+pub(crate) fn body_there(length: usize, at: usize, n: u8) -> bool
     ensures { λ r. ⌜ r ≡ bodyThere n at length ⌝ }
 {
-    if PLACES < n {
+    let size = body_length(n);
+    if size == 0 {
         return false;
     }
     if length < at {
         return false;
     }
-    8 * ((n + 1) * (n + 1)) <= length - at
-}
-
-// What numbers come to that stand so many bytes apart.
-fn sum_apart(bytes: &[u8], at: usize, apart: usize, count: usize) -> u64
-    requires { ⌜ Strided at apart count (now bytes) ⌝ }
-    ensures { λ r. ⌜ (r ≡ sum count (λ k. number 4 (now (bytes .entry)) (at + k * apart))) × (r ≤ 34359738368) ⌝ }
-{
-    let mut sum: u64 = 0;
-    let mut k = 0;
-    while k < count {
-        sum = sum + word(bytes, at + k * apart);
-        k += 1;
-    }
-    sum
+    size <= length - at
 }
 
 // What a debit leaves of a credit.
@@ -49,17 +34,19 @@ pub(crate) fn less(credit: u64, debit: u64) -> u64
 }
 
 // The rights of desk i: its share, what it earned and what it got, less what it gave and spent.
-pub(crate) fn left_of(bytes: &[u8], at: usize, n: usize, i: usize, side: usize) -> u64
-    requires { ⌜ (side ≤ 1) × (i < n) × BodyIn n at (now bytes) ⌝ }
-    ensures { λ r. ⌜ r ≡ rights n (bodyView n (now (bytes .entry)) at) (sideOf side) i ⌝ }
+pub(crate) fn left_of(body: &[u8], n: u8, i: u8, side: u8) -> u64
+    requires { ⌜ (side ≤ 1) × (i < n) × BodyWithin n 0 (now body) ⌝ }
+    ensures { λ r. ⌜ r ≡ rights n (firstBody n (now (body .entry))) (sideOf side) i ⌝ }
 {
-    let row = 8 * (n + 1);
-    let own = at + (i + 1) * row;
-    let first = 8 + 4 * (n * side);
-    let got = sum_apart(bytes, at + row + first + 4 * i, row, n);
-    let given = sum_apart(bytes, own + first, 4, n);
-    let share = word(bytes, at + first + 4 * i);
-    let earned = word(bytes, own + 4 * side);
-    let spent = word(bytes, own + 4 * (1 - side));
-    less(share + earned + got, given + spent)
+    let own = i + 1;
+    let mut credit = cell(body, n, 0, side_column(n, side, i))
+        + cell(body, n, own, earned_column(side));
+    let mut debit = cell(body, n, own, earned_column(1 - side));
+    let mut j: u8 = 0;
+    while j < n {
+        credit = credit + cell(body, n, j + 1, side_column(n, side, i));
+        debit = debit + cell(body, n, own, side_column(n, side, j));
+        j += 1;
+    }
+    less(credit, debit)
 }

@@ -6,7 +6,7 @@ use mathlib.Core.List.{List}
 use lib.ListN.{length}
 use Rattle.rules.specs.Pile.{pileAnswer}
 use Rattle.rules.specs.Layout.{Sizes, Head, entryAt, bookLength, bodyView, desks}
-use Rattle.layout.specs.Inner.Within.{BodyWithin}
+use Rattle.layout.specs.Inner.{BodyWithin}
 
 -- the entries of p piles
 pub record EntriesWithin (p : ℕ) (b : List ℕ) : Type 0 where

@@ -1,13 +1,16 @@
--- A side by its number: 0 for draw, any other for tip.
+-- The side that a number stands for.
 -- Assumes nothing.
 use Prim.Native.Nat.{ℕ, zero, suc}
 use mathlib.Core.Path.{_≡_, refl, ap}
 use mathlib.Core.Logic.{_≢_}
-use Rattle.rules.specs.Pile.{draw, tip, sideOf}
+use Rattle.rules.specs.Pile.{Side, draw, tip, sideOf}
 
 pub draw-side : {side : ℕ} → side ≡ 0 → sideOf side ≡ draw
 draw-side e = ap sideOf e
 
-pub tip-side : (side : ℕ) → side ≢ 0 → sideOf side ≡ tip
-tip-side zero d = absurd (d refl)
-tip-side (suc side) d = refl
+tip-of : (side : ℕ) → side ≢ 0 → sideOf side ≡ tip
+tip-of zero d = absurd (d refl)
+tip-of (suc n) d = refl
+
+pub tip-side : {side : ℕ} → side ≢ 0 → sideOf side ≡ tip
+tip-side {side} d = tip-of side d

@@ -26,7 +26,7 @@ use Rattle.rules.proofs.File.Body.{Fits, lawful-fits, column-below, length-body
 use Rattle.rules.proofs.Record.Facts.{RecordFacts, record-facts}
 use Rattle.audit.specs.Audits.{bodiesAnswer}
 use Rattle.audit.proofs.Audits.{shape-fits}
-use Rattle.audit.proofs.DeskRights.{square-small}
+use Rattle.layout.proofs.Short.{body-most}
 use Rattle.padding.specs.Lists.{recordLength, numbersRecord, packAnswer, afterPack, listAnswer}
 use Rattle.padding.proofs.Cells.{record-cell}
 
@@ -83,8 +83,8 @@ module _ (l : List ℕ) where
   pack-few e = leb-true _ _ (and-right _ _ (pack-inside e))
 
   room : inside ≡ true → 0 + bodyLength (getD l 0 0) ≤ 648
-  unfolding between bodyLength
-  room in-range = omega (arith, square-small {n = getD l 0 0} (leb-true _ _ (and-right _ _ in-range)))
+  unfolding between
+  room in-range = omega (arith, body-most (getD l 0 0) (leb-true _ _ (and-right _ _ in-range)))
 
   shape : {m : ℕ} (sized in-range : Bool) → eqb (length l) recordLength ≡ sized → inside ≡ in-range → m ≡ packAnswer l 0 648 → m ≢ 0 → m ≡ listAnswer l
   unfolding packAnswer listAnswer recordAnswer numbersRecord _when_ _orElse_
@@ -98,12 +98,12 @@ module _ (l : List ℕ) where
 -- the bytes of the body that a list packs to
 packed-bytes : (l : List ℕ) → getD l 0 0 ≤ 8 → {body : List ℕ} → body ≡ afterPack l 0 (replicate 648 0) → packAnswer l 0 648 ≡ 0
     → part 0 (bodyLength (getD l 0 0)) body ≡ bodyBytes (getD l 0 0) (recordView (numbersRecord l))
-unfolding afterPack bodyLength
+unfolding afterPack
 packed-bytes l few packed done =
     let n = getD l 0 0 in
     let P = recordView (numbersRecord l) in
     rw (packed ∙ when-accepted _ _ _ done, ← length-body n P)
-    (part-sets (replicate 648 0) 0 (bodyBytes n P) (omega (arith, length-body n P, square-small few, length-replicate {A = ℕ} 648 0)))
+    (part-sets (replicate 648 0) 0 (bodyBytes n P) (omega (arith, length-body n P, body-most n few, length-replicate {A = ℕ} 648 0)))
 
 -- a list whose record is lawful has, packed, a body of the same numbers
 module _ (l : List ℕ) (passes : listAnswer l ≡ 0) where
@@ -161,7 +161,7 @@ module _ (l : List ℕ) (small : (k : ℕ) → getD l k 0 < 4294967296) (sized :
     unfolding bodiesAnswer first _orElse_
     body-answer =
         judged
-        ∙ orElse-passes (sym (shape-fits n 1 0 (length (part 0 size body)) some few (lit≤ tt) (ap length written ∙ length-body n P ∙ omega arith))) _
+        ∙ orElse-passes (sym (shape-fits n 1 0 (length (part 0 size body)) (some, few) (lit≤ tt) (ap length written ∙ length-body n P ∙ omega arith))) _
         ∙ answer-cong n _ P (read-body n P fits (part 0 size body) (0 + 0 * bodyLength n) at-start)
 
   -- the lines of a list's table

@@ -1,9 +1,11 @@
 pub mod Cells
 pub mod Parts
 pub mod RecordLists
-pub mod Widened
-pub mod Padded
-pub mod Narrowed
+pub mod PaddedRows
+pub mod PadLines
+pub mod PackedRows
 pub mod PackLines
 pub mod Unused
 pub mod Checked
+pub mod CopyLines
+pub mod Halves

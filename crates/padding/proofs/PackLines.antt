@@ -15,8 +15,9 @@ use Rattle.rules.specs.Layout.{bodyLength, bodyBytes}
 use Rattle.rules.specs.Record.{recordView}
 use Rattle.rules.proofs.Loops.Refusals.{when-accepted}
 use Rattle.rules.proofs.Loops.Left.{stays, becomes}
-use Rattle.padding.specs.Lists.{recordLength, numbersRecord, packAnswer, afterPack, usedRow}
-use Rattle.padding.proofs.Narrowed.{body-used}
+use Rattle.padding.specs.Lists.{recordLength, numbersRecord, packAnswer, afterPack}
+use Rattle.padding.specs.Inner.{packedRow}
+use Rattle.padding.proofs.PackedRows.{body-packed}
 
 module _ (l : List ℕ) (at : ℕ) (b : List ℕ) where
   abbrev Leaves : ℕ → List ℕ → Type 0
@@ -46,11 +47,11 @@ module _ (l : List ℕ) (at : ℕ) (b : List ℕ) where
         pack-8 short = refused (rw (eq-eqb _ _ sized, le-leb _ _ some, le-leb _ _ few, lt-ltb _ _ short)) (omega arith)
 
         pub packed : at + bodyLength (getD l 0 0) ≤ length b → {n : ℕ} {after : List ℕ} → n ≡ getD l 0 0
-            → after ≡ sets b at (flat (suc n) (λ r. encode (usedRow n l r))) → Leaves 0 after
+            → after ≡ sets b at (flat (suc n) (λ r. encode (packedRow n l r))) → Leaves 0 after
         unfolding packAnswer afterPack between _and_ _when_ _orElse_
         packed room is put =
             let e : packAnswer l at (length b) ≡ 0 = rw (eq-eqb _ _ sized, le-leb _ _ some, le-leb _ _ few, le-ltb _ _ room) in
-            (sym e, becomes _ _ e (rw is at put ∙ ap (sets b at) (body-used (getD l 0 0) few l)))
+            (sym e, becomes _ _ e (rw is at put ∙ ap (sets b at) (body-packed (getD l 0 0) few l)))
 
         -- where nothing refuses it
         pub pack-leaves : at + bodyLength (getD l 0 0) ≤ length b → {after : List ℕ} → after ≡ afterPack l at b

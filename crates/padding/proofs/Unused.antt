@@ -29,11 +29,11 @@ halfAt draw = 2
 halfAt tip = tipsPlace
 
 -- a row that starts at a place is 0 past n, on a side and on both
-abbrev sideRest : List ℕ → ℕ → ℕ → Side → Bool
-sideRest l n at s = every (8 - n) (λ k. eqb (getD l (at + halfAt s + n + k) 0) 0)
+abbrev sidePadding : List ℕ → ℕ → ℕ → Side → Bool
+sidePadding l n at s = every (8 - n) (λ k. eqb (getD l (at + halfAt s + n + k) 0) 0)
 
-abbrev pub rowRest : List ℕ → ℕ → ℕ → Bool
-rowRest l n at = sideRest l n at draw and sideRest l n at tip
+abbrev pub rowPadding : List ℕ → ℕ → ℕ → Bool
+rowPadding l n at = sidePadding l n at draw and sidePadding l n at tip
 
 -- where the row of desk i starts
 abbrev pub rowAt : ℕ → ℕ
@@ -56,20 +56,20 @@ module _ (l : List ℕ) (n : ℕ) (n≤8 : n ≤ 8) where
     past-n draw k m = ap (λ (q : ℕ). getD l q 0) (omega arith) ∙ sym (record-cell l r (column 8 draw (n + k)) r<9 (omega arith))
     past-n tip k m = ap (λ (q : ℕ). getD l q 0) (omega arith) ∙ sym (record-cell l r (column 8 tip (n + k)) r<9 (omega arith))
 
-    rest-at : rowRest l n at ≡ true → (s : Side) (j : ℕ) → n ≤ j → j < 8 → recordCell R r (column 8 s j) ≡ 0
-    rest-at e s j n≤j j<8 =
+    padding-at : rowPadding l n at ≡ true → (s : Side) (j : ℕ) → n ≤ j → j < 8 → recordCell R r (column 8 s j) ≡ 0
+    padding-at e s j n≤j j<8 =
         let is : j ≡ n + (j - n) = omega arith in
         ap (λ (q : ℕ). recordCell R r (column 8 s q)) is ∙ sym (past-n s (j - n) (omega arith))
         ∙ eqb-true _ _ (every-at (8 - n) _ (side s) (j - n) (omega arith))
       where
-        side : (s : Side) → sideRest l n at s ≡ true
+        side : (s : Side) → sidePadding l n at s ≡ true
         side draw = and-left _ _ e
         side tip = and-right _ _ e
 
-    rest-all : ((s : Side) (j : ℕ) → n ≤ j → j < 8 → recordCell R r (column 8 s j) ≡ 0) → rowRest l n at ≡ true
-    rest-all h = and-both (side draw) (side tip)
+    padding-all : ((s : Side) (j : ℕ) → n ≤ j → j < 8 → recordCell R r (column 8 s j) ≡ 0) → rowPadding l n at ≡ true
+    padding-all h = and-both (side draw) (side tip)
       where
-        side : (s : Side) → sideRest l n at s ≡ true
+        side : (s : Side) → sidePadding l n at s ≡ true
         side s = every-all (8 - n) (λ k m. eq-eqb _ _ (past-n s k m ∙ h s (n + k) (omega arith) (omega arith)))
 
   -- shares
@@ -79,9 +79,9 @@ module _ (l : List ℕ) (n : ℕ) (n≤8 : n ≤ 8) where
       every-all 8 (λ j j<8. by-cases (decLt j n) (λ m. or-first (lt-ltb j n m) _)
       (λ m. or-second _ (both-all (λ s. eq-eqb _ _ (h s j (omega arith) j<8)))))
 
-  pub unused-shares : rowRest l n 1 ≡ unusedShares n P
+  pub unused-shares : rowPadding l n 1 ≡ unusedShares n P
   unused-shares =
-      same _ _ (λ e. shares-all (rest-at 0 1 (lit< tt) (omega arith) e)) (λ e. rest-all 0 1 (lit< tt) (omega arith) (unused-share n P e))
+      same _ _ (λ e. shares-all (padding-at 0 1 (lit< tt) (omega arith) e)) (λ e. padding-all 0 1 (lit< tt) (omega arith) (unused-share n P e))
 
   -- places: the tallies of desks past n, and the gives of such desks and to them
   places-all : ((s : Side) (i : ℕ) → n ≤ i → i < 8 → P .earned s i ≡ 0)
@@ -111,26 +111,26 @@ module _ (l : List ℕ) (n : ℕ) (n≤8 : n ≤ 8) where
       eq-eqb _ _ (ap (λ (q : ℕ). getD l q 0) at ∙ sym (record-cell l (suc (n + k / rowPlaces)) (k % rowPlaces) (omega arith) c<row)
       ∙ h (n + k / rowPlaces) (k % rowPlaces) (omega arith) (omega arith) c<row))
 
-  pub unused-places : every n (λ i. rowRest l n (rowAt i)) and rowsPast l n ≡ unusedPlaces n P
+  pub unused-places : every n (λ i. rowPadding l n (rowAt i)) and rowsPast l n ≡ unusedPlaces n P
   unused-places = same _ _ forth back
     where
       earned-small : (s : Side) → earnedColumn s < rowPlaces
       earned-small draw = lit< tt
       earned-small tip = lit< tt
 
-      forth : every n (λ i. rowRest l n (rowAt i)) and rowsPast l n ≡ true → unusedPlaces n P ≡ true
+      forth : every n (λ i. rowPadding l n (rowAt i)) and rowsPast l n ≡ true → unusedPlaces n P ≡ true
       forth e =
           let past = past-at (and-right _ _ e) in
           places-all (λ s i n≤i i<8. past i (earnedColumn s) n≤i i<8 (earned-small s))
           (λ s i j i<8 j<8 h. by-cases (decLt i n)
-          (λ m. rest-at (suc i) (rowAt i) (omega arith) (omega arith) (every-at n _ (and-left _ _ e) i m) s j (⊎-elim (λ o. absurd (omega arith)) (λ o. o) h) j<8)
+          (λ m. padding-at (suc i) (rowAt i) (omega arith) (omega arith) (every-at n _ (and-left _ _ e) i m) s j (⊎-elim (λ o. absurd (omega arith)) (λ o. o) h) j<8)
           (λ m. past i (column 8 s j) (omega arith) i<8 (column-below 8 s j j<8)))
 
-      back : unusedPlaces n P ≡ true → every n (λ i. rowRest l n (rowAt i)) and rowsPast l n ≡ true
+      back : unusedPlaces n P ≡ true → every n (λ i. rowPadding l n (rowAt i)) and rowsPast l n ≡ true
       back e =
           let earned = unused-earned n P e in
           let give = unused-give n P e in
           and-both
-          (every-all n (λ i m. rest-all (suc i) (rowAt i) (omega arith) (omega arith) (λ s j n≤j j<8. give s i j (omega arith) j<8 (inr n≤j))))
+          (every-all n (λ i m. padding-all (suc i) (rowAt i) (omega arith) (omega arith) (λ s j n≤j j<8. give s i j (omega arith) j<8 (inr n≤j))))
           (past-all (λ i c n≤i i<8. by-column 8 (λ c. recordCell R (suc i) c ≡ 0) (earned draw i n≤i i<8) (earned tip i n≤i i<8)
           (λ s j j<8. give s i j i<8 j<8 (inl n≤i)) c))

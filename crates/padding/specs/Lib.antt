@@ -1,2 +1,3 @@
 pub mod Lists
-pub mod Fits
+pub mod Copies
+pub mod Inner

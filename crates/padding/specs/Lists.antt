@@ -1,17 +1,17 @@
 -- A pile record as a list of 163 numbers, and a list of numbers as a record: n, floor, top, 8 draw shares, 8 tip shares, then 8 rows, each tipped, drawn,
 -- 8 draw gives, 8 tip gives. What the calls on such lists answer and leave.
 -- Assumes nothing.
-use Prim.Native.Nat.{ℕ, _+_, _*_}
+use Prim.Native.Nat.{ℕ, _+_}
 use mathlib.Core.Bool.{not}
 use mathlib.Core.List.{List, _∷_, _++_}
 use lib.ListN.{length, getD}
 use lib.Dec.{ltb, eqb}
 use lib.Seq.{sets}
-use Rattle.rules.specs.Loops.{between, list}
+use Rattle.rules.specs.Loops.{between}
 use Rattle.rules.specs.Refusals.{_when_, _orElse_, done}
 use Rattle.rules.specs.Numbers.{part}
 use Rattle.rules.specs.Layout.{deskLimit, bodyLength, bodyView, bodyBytes}
-use Rattle.rules.specs.Record.{Record, sharePlaces, tallyPlaces, rowPlaces, tipsPlace, recordView, recordAnswer, recordOf}
+use Rattle.rules.specs.Record.{Record, sharePlaces, tallyPlaces, recordView, recordAnswer, recordOf}
 
 abbrev pub sharesAt : ℕ
 sharesAt = 3
@@ -59,7 +59,3 @@ afterPack l at b = done (packAnswer l at (length b)) (sets b at (bodyBytes (getD
 -- the own refusal of a list's record
 unfoldable pub listAnswer : List ℕ → ℕ
 listAnswer l = 3 when not (eqb (length l) recordLength) orElse recordAnswer (numbersRecord l)
-
--- the numbers of n desks in row r of a list: row 0 is the opening, row i + 1 desk i's
-abbrev pub usedRow : ℕ → List ℕ → ℕ → List ℕ
-usedRow n l r = list (2 + n) (λ k. getD l (1 + r * rowPlaces + k) 0) ++ list n (λ k. getD l (1 + r * rowPlaces + tipsPlace + k) 0)

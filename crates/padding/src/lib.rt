@@ -1,26 +1,28 @@
 // A pile's record as a list of numbers: n, and then the numbers of a body of 8 desks, of which those past n are 0. A body of n desks is padded to it, and
 // packed from it; and a list is checked as the body that it packs to.
-mod narrow;
-mod rest;
-mod widen;
+mod packed;
+mod padded;
+pub mod runs;
+mod zeros;
 
 use audit::check_bodies;
-use narrow::narrow_rows;
-use rest::opening_rest_zero;
-use rest::rows_rest_zero;
-use widen::clear;
-use widen::widen_rows;
+use layout::lengths::LONGEST_BODY;
+use layout::lengths::body_length;
+use layout::limits::DESKS;
+use packed::pack_rows;
+use padded::clear;
+use padded::pad_rows;
+use zeros::opening_padding_zero;
+use zeros::rows_padding_zero;
 ghost use mathlib.Core.Path.{_≡_};
 ghost use lib.ListN.{length};
 ghost use Rattle.padding.specs.Lists.{padAnswer, afterPad, packAnswer, afterPack, listAnswer};
 
 // A record has places for 8 desks: 8 for each kind of shares and gives, so a row has 18, and the opening has as many.
-pub const PLACES: usize = 8;
-
-pub const ROW: usize = 2 + 2 * PLACES;
+pub const ROW: usize = 2 + 2 * DESKS;
 
 // Where a row's tip gives start, and the opening's tip shares.
-pub const TIPS: usize = 2 + PLACES;
+pub const TIPS: usize = 2 + DESKS;
 
 // Where the opening, the shares and the tallies of a record start in its list, and how long that is.
 pub const OPENING_AT: usize = 1;
@@ -29,10 +31,7 @@ pub const SHARES_AT: usize = OPENING_AT + 2;
 
 pub const TALLIES_AT: usize = OPENING_AT + ROW;
 
-pub const RECORD: usize = TALLIES_AT + PLACES * ROW;
-
-// The bytes of a body of 8 desks.
-pub const BODY: usize = 648;
+pub const RECORD: usize = TALLIES_AT + DESKS * ROW;
 
 // Fills a list with the record of the body of n desks at a position; refused with 2 for n, 3 where no body is there, or 8 where the list is shorter than a
 // record. Numbers past the record stay.
@@ -40,23 +39,14 @@ pub fn pad(bytes: &[u8], at: usize, n: u8, out: &mut [u32]) -> u8
     ensures answer { λ r. ⌜ r ≡ padAnswer n at (length (now (bytes .entry))) (length (now (out .entry))) ⌝ }
     ensures out { λ _. ⌜ now (out .exit) ≡ afterPad n at (now (bytes .entry)) (now (out .entry)) ⌝ }
 {
-    pad_wide(bytes, at, n as usize, out)
-}
-
-fn pad_wide(bytes: &[u8], at: usize, n: usize, out: &mut [u32]) -> u8
-    ensures answer { λ r. ⌜ r ≡ padAnswer n at (length (now (bytes .entry))) (length (now (out .entry))) ⌝ }
-    ensures out { λ _. ⌜ now (out .exit) ≡ afterPad n at (now (bytes .entry)) (now (out .entry)) ⌝ }
-{
-    if n < 1 {
-        return 2;
-    }
-    if PLACES < n {
+    let size = body_length(n);
+    if size == 0 {
         return 2;
     }
     if bytes.len() < at {
         return 3;
     }
-    if bytes.len() - at < 8 * ((n + 1) * (n + 1)) {
+    if bytes.len() - at < size {
         return 3;
     }
     if out.len() < RECORD {
@@ -64,7 +54,7 @@ fn pad_wide(bytes: &[u8], at: usize, n: usize, out: &mut [u32]) -> u8
     }
     clear(&mut out[0..RECORD]);
     out[0] = n as u32;
-    widen_rows(&mut out[OPENING_AT..RECORD], bytes, n, at);
+    pad_rows(&mut out[OPENING_AT..RECORD], bytes, n, at);
     0
 }
 
@@ -80,17 +70,17 @@ pub fn pack(numbers: &[u32], bytes: &mut [u8], at: usize) -> u8
     if numbers[0] < 1 {
         return 2;
     }
-    if 8 < numbers[0] {
+    if DESKS < numbers[0] as usize {
         return 2;
     }
-    let n = numbers[0] as usize;
+    let n = numbers[0] as u8;
     if bytes.len() < at {
         return 8;
     }
-    if bytes.len() - at < 8 * ((n + 1) * (n + 1)) {
+    if bytes.len() - at < body_length(n) {
         return 8;
     }
-    narrow_rows(bytes, at, numbers, n);
+    pack_rows(bytes, at, numbers, n);
     0
 }
 
@@ -99,21 +89,22 @@ pub fn pack(numbers: &[u32], bytes: &mut [u8], at: usize) -> u8
 pub fn check_record(numbers: &[u32]) -> u8
     ensures { λ r. ⌜ r ≡ listAnswer (now (numbers .entry)) ⌝ }
 {
-    let mut body = [0u8; BODY];
+    let mut body = [0u8; LONGEST_BODY];
     let shape = pack(numbers, &mut body, 0);
     if shape != 0 {
         return shape;
     }
-    let n = numbers[0] as usize;
-    let size = 8 * ((n + 1) * (n + 1));
-    let answer = check_bodies(&body[0..size], 0, n as u8, 1);
+    let n = numbers[0] as u8;
+    let size = body_length(n);
+    let answer = check_bodies(&body[0..size], 0, n, 1);
     if answer == 5 {
         return 5;
     }
-    if !opening_rest_zero(numbers, n) {
+    let desks = n as usize;
+    if !opening_padding_zero(numbers, desks) {
         return 5;
     }
-    if !rows_rest_zero(numbers, n) {
+    if !rows_padding_zero(numbers, desks) {
         return 6;
     }
     answer

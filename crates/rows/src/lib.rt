@@ -1,9 +1,11 @@
 // Two rows of a desk, each in a slice of bytes: which of them is later, and the later one handed on.
+use layout::lengths::NUMBER;
+use layout::lengths::is_row_length;
 use number::get4;
 ghost use mathlib.Core.Path.{_≡_};
 ghost use mathlib.Core.Bool.{cond};
 ghost use denote.Ref.{ptr};
-ghost use Rattle.rules.specs.Rows.{isRowLength, compared, isCopyLater, laterRow};
+ghost use Rattle.rules.specs.Rows.{compared, isCopyLater, laterRow};
 ghost use Rattle.rows.specs.Comparisons.{asComparison};
 
 // What comparing two rows tells: they are alike, mine is later, the copy's is, or they are split. Slices that are no two rows of one length are refused.
@@ -13,16 +15,6 @@ pub enum Comparison {
     CopyLater,
     Split,
     Refused(u8),
-}
-
-// 8(n + 1) bytes for an n from 1 to 8.
-fn is_row_length(len: usize) -> bool
-    ensures { λ r. ⌜ r ≡ isRowLength len ⌝ }
-{
-    if len % 8 != 0 {
-        return false;
-    }
-    16 <= len && len <= 72
 }
 
 // Compares the numbers of my row with those at the same places of the copy's, in one pass: is each row at least the other at every place? A row that
@@ -37,16 +29,16 @@ pub fn compare(mine: &[u8], copy: &[u8]) -> Comparison
     if mine.len() != copy.len() {
         return Comparison::Refused(3);
     }
-    let places = mine.len() / 4;
+    let places = mine.len() / NUMBER;
     // Each row has been at least the other at every place so far.
     let mut mine_above = true;
     let mut copy_above = true;
     let mut c = 0;
     while c < places {
         // Of a part of 4 bytes a number is read without a test, and the compiler compares several at once.
-        let at = c * 4;
-        let x = get4(&mine[at..at + 4], 0);
-        let y = get4(&copy[at..at + 4], 0);
+        let at = c * NUMBER;
+        let x = get4(&mine[at..at + NUMBER], 0);
+        let y = get4(&copy[at..at + NUMBER], 0);
         if x < y {
             mine_above = false;
         }

@@ -7,7 +7,7 @@ use mathlib.Core.List.{List}
 use Rattle.rules.specs.Layout.{Head, headOf, bodyAt}
 use Rattle.rules.proofs.File.Readable.{BookFacts, book-facts}
 use Rattle.layout.specs.Positions.{asHead, bodyPosition}
-use Rattle.layout.proofs.Sizes.{head-there, position-is, position-most}
+use Rattle.layout.proofs.Positions.{head-there, position-is, position-most}
 use Rattle.book.proofs.Replies.{HasPlace, has-place, start-nowhere, of-no-desks, start-at, count-at}
 use borrow.Author.Needs.{needs}
 use Rattle.book.proofs.seek.Statement.{statement}

@@ -10,7 +10,8 @@ use Rattle.rules.specs.Pile.{pileAnswer}
 use Rattle.rules.specs.Layout.{bodyLength}
 use Rattle.rules.specs.Record.{recordView}
 use Rattle.rules.proofs.Loops.Logic.{fails, holds}
-use Rattle.audit.proofs.DeskRights.{square-small}
+use Rattle.rules.proofs.File.BodySize.{size-in-range}
+use Rattle.layout.proofs.Short.{body-most}
 use Rattle.padding.specs.Lists.{recordLength, numbersRecord, packAnswer}
 use Rattle.padding.proofs.Checked.{pack-sized, pack-some, pack-few, shape-refused, body-answer, unlawful-opening, share-left, place-left, as-body}
 use borrow.Author.Needs.{needs}
@@ -44,13 +45,16 @@ small c k = omega (arith, c .before .before .before .before .shared-slice-known 
 
 -- what the body's judge says is what a pile's is
 abbrev read : tie.After-check-bodies → tie.Else1
-read c = c .before .before .before .before
+read c = c .before .before .before .before .before
+
+size : (c : tie.After-body-length) → c .body-length .result ≡ bodyLength (getD (list (c .before .before)) 0 0)
+size c = let e = c .before .before in c .body-length .ensures ∙ size-in-range _ (pack-some (list e) (packed e)) (few e)
 
 judged : (c : tie.After-check-bodies) → c .check-bodies .result ≡ pileAnswer (getD (list (read c)) 0 0) (recordView (numbersRecord (list (read c))))
-unfolding bodyLength
 judged c =
     let e = read c in
-    let all : bodyLength (getD (list e) 0 0) - 0 ≡ bodyLength (getD (list e) 0 0) = omega arith in
+    let sized-at = c .before .before .before in
+    let all : sized-at .body-length .result - 0 ≡ bodyLength (getD (list e) 0 0) = omega (arith, size sized-at) in
     body-answer (list e) (small e) (sized e) (pack-some (list e) (packed e)) (few e) (e .before .before .pack .ensures .1) (packed e) all (c .check-bodies .ensures)
 
 returns : tie.Need-returns
@@ -62,17 +66,8 @@ shared-slice-read-n c = search (needs, sized (c .before))
 cast-n : tie.Need-cast-n
 cast-n c = search (needs, few (c .before))
 
-add-size : tie.Need-add-size
-add-size c = search (needs, few (c .before))
-
-add-size-2 : tie.Need-add-size-2
-add-size-2 c = search (needs, few (c .before))
-
-mul-size : tie.Need-mul-size
-mul-size c = search (needs, square-small (few (c .before)))
-
-mul-size-2 : tie.Need-mul-size-2
-mul-size-2 c = search (needs, square-small (few (c .before)))
+body-length-requires : tie.Need-body-length-requires
+body-length-requires c κs = search needs
 
 sub-check-bodies : tie.Need-sub-check-bodies
 sub-check-bodies c = search needs
@@ -81,10 +76,7 @@ part-check-bodies-start : tie.Need-part-check-bodies-start
 part-check-bodies-start c = search needs
 
 part-check-bodies-end : tie.Need-part-check-bodies-end
-part-check-bodies-end c = search (needs, square-small (few (c .before .before)), length-sets)
-
-cast-check-bodies : tie.Need-cast-check-bodies
-cast-check-bodies c = search (needs, few (c .before .before .before))
+part-check-bodies-end c = let e = c .before .before .before in search (needs, size (c .before), body-most _ (few e), length-sets)
 
 check-bodies-requires : tie.Need-check-bodies-requires
 check-bodies-requires c κs = search needs
@@ -94,8 +86,11 @@ returns-2 c =
     let e = read (c .before) in
     unlawful-opening (list e) (small e) (sized e) (pack-some (list e) (packed e)) (few e) (judged (c .before)) (c .if2 .taken)
 
-opening-rest-zero-requires : tie.Need-opening-rest-zero-requires
-opening-rest-zero-requires c κs = let e = read (c .before) in search (needs, few e, sized e)
+cast-desks : tie.Need-cast-desks
+cast-desks c = omega (arith, few (read (c .before)))
+
+opening-padding-zero-requires : tie.Need-opening-padding-zero-requires
+opening-padding-zero-requires c κs = let e = read (c .before) in search (needs, few e, sized e)
 
 returns-3 : tie.Need-returns-3
 returns-3 c =
@@ -103,10 +98,10 @@ returns-3 c =
     let other = zero .before in
     let e = read (other .before) in
     share-left (list e) (small e) (sized e) (pack-some (list e) (packed e)) (few e) (judged (other .before)) (other .if2 .left)
-    (fails (zero .opening-rest-zero .ensures) (c .if3 .taken))
+    (fails (zero .opening-padding-zero .ensures) (c .if3 .taken))
 
-rows-rest-zero-requires : tie.Need-rows-rest-zero-requires
-rows-rest-zero-requires c κs = let e = read (c .before .before .before) in search (needs, few e, sized e)
+rows-padding-zero-requires : tie.Need-rows-padding-zero-requires
+rows-padding-zero-requires c κs = let e = read (c .before .before .before) in search (needs, few e, sized e)
 
 returns-4 : tie.Need-returns-4
 returns-4 c =
@@ -115,7 +110,7 @@ returns-4 c =
     let other = none .before .before in
     let e = read (other .before) in
     place-left (list e) (small e) (sized e) (pack-some (list e) (packed e)) (few e) (judged (other .before)) (other .if2 .left)
-    (holds (none .before .opening-rest-zero .ensures) (none .if3 .left)) (fails (zero .rows-rest-zero .ensures) (c .if4 .taken))
+    (holds (none .before .opening-padding-zero .ensures) (none .if3 .left)) (fails (zero .rows-padding-zero .ensures) (c .if4 .taken))
 
 returns-5 : tie.Need-returns-5
 returns-5 c =
@@ -124,7 +119,7 @@ returns-5 c =
     let other = none .before .before in
     let e = read (other .before) in
     as-body (list e) (small e) (sized e) (pack-some (list e) (packed e)) (few e) (judged (other .before)) (other .if2 .left)
-    (holds (none .before .opening-rest-zero .ensures) (none .if3 .left)) (holds (zero .rows-rest-zero .ensures) (c .if4 .left))
+    (holds (none .before .opening-padding-zero .ensures) (none .if3 .left)) (holds (zero .rows-padding-zero .ensures) (c .if4 .left))
 
 pub check-record-spec : {M : Type 1} → statement M
 check-record-spec =
@@ -135,18 +130,15 @@ check-record-spec =
     returns
     shared-slice-read-n
     cast-n
-    add-size
-    add-size-2
-    mul-size
-    mul-size-2
+    body-length-requires
     sub-check-bodies
     part-check-bodies-start
     part-check-bodies-end
-    cast-check-bodies
     check-bodies-requires
     returns-2
-    opening-rest-zero-requires
+    cast-desks
+    opening-padding-zero-requires
     returns-3
-    rows-rest-zero-requires
+    rows-padding-zero-requires
     returns-4
     returns-5)

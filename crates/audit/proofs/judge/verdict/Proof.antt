@@ -7,13 +7,13 @@ use mathlib.Core.Logic.{⊎-elim}
 use borrow.Author.Tests.{not-true, not-false}
 use Rattle.rules.specs.Loops.{every}
 use Rattle.rules.specs.Pile.{Pile, openingLawful, talliesLawful}
-use Rattle.rules.specs.Layout.{bodyView}
+use Rattle.layout.specs.Inner.{firstBody}
 use Rattle.audit.proofs.Verdict.{own-refused, small-lawful, read-lawful, answer-5, answer-6, answer-7, answer-0}
 use Rattle.audit.proofs.judge.verdict.Statement.{statement}
 use Rattle.audit.proofs.judge.verdict.Tie as tie
 
 abbrev pile : tie.After-shared-slice-known → Pile
-pile c = let a = c .before .args in bodyView (a .n) (a .bytes .now) (a .at)
+pile c = let a = c .before .args in firstBody (a .n) (a .body .now)
 
 -- what each line that was passed tells
 opens : (c : tie.Else1) → openingLawful (c .before .before .args .n) (pile (c .before)) ≡ true
@@ -26,7 +26,7 @@ within c =
     let pre = at .before .pre in
     let own = sym (pre .1 .1 .0) ∙ c .before .if2 .left in
     ⊎-elim
-    (λ all. sym (read-lawful (a .n) (a .at) (a .bytes .now) own) ∙ sym (all .1 .ensures) ∙ not-false _ (all .2 .left))
+    (λ all. sym (read-lawful (a .n) (a .body .now) own) ∙ sym (all .1 .ensures) ∙ not-false _ (all .2 .left))
     (λ few. small-lawful (a .n) (pile at) own (omega (arith, pre .1 .1 .1 .1, few .left)))
     (c .if3 .came)
 
@@ -47,7 +47,7 @@ returns-3 c =
     let a = at .before .args in
     let pre = at .before .pre in
     answer-6 _ _ (opens (two .before))
-    (sym (read-lawful (a .n) (a .at) (a .bytes .now) (sym (pre .1 .1 .0) ∙ two .if2 .left)) ∙ sym (c .before .rows-within .ensures) ∙ not-true _ (c .if4 .taken))
+    (sym (read-lawful (a .n) (a .body .now) (sym (pre .1 .1 .0) ∙ two .if2 .left)) ∙ sym (c .before .rows-within .ensures) ∙ not-true _ (c .if4 .taken))
 
 returns-4 : tie.Need-returns-4
 returns-4 c =

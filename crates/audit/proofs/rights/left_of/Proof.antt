@@ -1,169 +1,173 @@
--- `left_of` reads what a desk's rights are made of.
+-- `left_of` adds up what a desk's rights are made of: what it had at first, and desk by desk what it got and what it gave.
 -- Assumes nothing.
-use Prim.Native.Nat.{_+_, _*_, _≤_}
+use Prim.Native.Nat.{ℕ, zero, suc, _+_, _-_, _*_, _≤_, _<_}
 use native.Mathlib.Omega.{arith}
-use mathlib.Core.Path.{_≡_, _∙_}
-use lib.ListN.{length}
-use Rattle.rules.specs.Pile.{other}
-use Rattle.rules.specs.Layout.{bodyView}
-use Rattle.audit.specs.Account.{sideOf}
-use Rattle.audit.proofs.Account.{side-columns}
-use Rattle.audit.proofs.Places.{sideAt, share-at, earned-at, row-within}
-use Rattle.audit.proofs.DeskRights.{side-at, side-most, column-strided, row-strided, got-sum, given-sum, rights-of}
+use mathlib.Core.Path.{_≡_, refl, ap, ap₂, sym, _∙_}
+use Rattle.rules.specs.Loops.{sum}
+use Rattle.rules.specs.Pile as pile
+use Rattle.rules.specs.Pile.{Side, Pile, other, sideOf, rights}
+use Rattle.rules.specs.Layout.{earnedColumn}
+use Rattle.rules.proofs.Loops.Arrays.{sum-next}
+use Rattle.layout.specs.Inner.{firstBody}
+use Rattle.audit.proofs.Places.{on-column, on-earned, share-is, give-is, earned-is}
 use borrow.Author.Needs.{needs}
 use Rattle.audit.proofs.rights.left_of.Statement.{statement}
 use Rattle.audit.proofs.rights.left_of.Tie as tie
 
--- the row of the desk lies within the bytes, and a side's numbers start at most n numbers further
-module _ (c : tie.Start) where
-  own-within : let a = c .args in a .at + (a .i + 1) * (8 * (a .n + 1)) + 8 * (a .n + 1) ≤ length (a .bytes .now)
-  own-within = row-within (c .pre .2) (c .pre .1)
+abbrev Inv-loop : tie.InvT-loop
+Inv-loop body n i side own credit₀ debit₀ j₀ credit debit j =
+    let p = firstBody n body in
+    let s = sideOf side in
+    (j ≤ n) × (credit ≤ (j + 2) * 4294967296) × (debit ≤ (j + 1) * 4294967296)
+    × (credit ≡ p .share s i + p .earned s i + sum j (λ k. p .give s k i)) × (debit ≡ sum j (p .give s i) + p .earned (other s) i)
 
-  side-within : let a = c .args in a .n * a .side ≤ a .n
-  side-within = side-most (c .args .n) (c .args .side) (c .pre .0)
+abbrev μ-loop : tie.MeasureT-loop
+μ-loop body n i side own credit₀ debit₀ j₀ credit debit j = n - j
 
-add-row : tie.Need-add-row
-add-row c = search needs
+other-side : (side : ℕ) → side ≤ 1 → sideOf (1 - side) ≡ other (sideOf side)
+other-side zero l = refl
+other-side (suc zero) l = refl
+other-side (suc (suc k)) l = absurd (omega arith)
 
-mul-row : tie.Need-mul-row
-mul-row c = search needs
+-- back to the entry
+abbrev first : tie.After-cell3 Inv-loop μ-loop → tie.Start Inv-loop μ-loop
+first c = c .before .before .before .before .before .before .before
 
-add-own : tie.Need-add-own
+abbrev start : tie.At-loop Inv-loop μ-loop → tie.Start Inv-loop μ-loop
+start at = first (at .before)
+
+abbrev P : tie.Start Inv-loop μ-loop → Pile
+P c = firstBody (c .args .n) (c .args .body .now)
+
+abbrev side : tie.Start Inv-loop μ-loop → Side
+side c = sideOf (c .args .side)
+
+add-own : tie.Need-add-own Inv-loop μ-loop
 add-own c = search needs
 
-mul-own : tie.Need-mul-own
-mul-own c = search (needs, own-within (c .before))
+side-column-requires : tie.Need-side-column-requires Inv-loop μ-loop
+side-column-requires c κs = search needs
 
-add-own-2 : tie.Need-add-own-2
-add-own-2 c = search (needs, own-within (c .before))
+cell-requires : tie.Need-cell-requires Inv-loop μ-loop
+cell-requires c κs = let start = c .before .before in on-column (start .pre .2) (omega arith) (side start) (start .pre .1) (c .side-column .ensures)
 
-mul-first : tie.Need-mul-first
-mul-first c = search (needs, side-within (c .before))
+earned-column-requires : tie.Need-earned-column-requires Inv-loop μ-loop
+earned-column-requires c κs = search needs
 
-mul-first-2 : tie.Need-mul-first-2
-mul-first-2 c = search (needs, side-within (c .before))
+cell-requires-2 : tie.Need-cell-requires-2 Inv-loop μ-loop
+cell-requires-2 c κs = let start = c .before .before .before .before in on-earned (start .pre .2) (omega arith) (side start) (c .earned-column .ensures)
 
-add-first : tie.Need-add-first
-add-first c = search (needs, side-within (c .before))
+add-credit : tie.Need-add-credit Inv-loop μ-loop
+add-credit c = search needs
 
-add-sum-apart : tie.Need-add-sum-apart
-add-sum-apart c = search needs
+sub-earned-column : tie.Need-sub-earned-column Inv-loop μ-loop
+sub-earned-column c = search needs
 
-add-sum-apart-2 : tie.Need-add-sum-apart-2
-add-sum-apart-2 c = search (needs, side-within (c .before))
+earned-column-requires-2 : tie.Need-earned-column-requires-2 Inv-loop μ-loop
+earned-column-requires-2 c κs = search needs
 
-mul-sum-apart : tie.Need-mul-sum-apart
-mul-sum-apart c = search needs
+cell-requires-3 : tie.Need-cell-requires-3 Inv-loop μ-loop
+cell-requires-3 c κs =
+    let start = c .before .before .before .before .before .before in
+    on-earned (start .pre .2) (omega arith) (sideOf (1 - start .args .side)) (c .earned-column2 .ensures)
 
-add-sum-apart-3 : tie.Need-add-sum-apart-3
-add-sum-apart-3 c = search (needs, side-within (c .before))
+loop-holds : tie.Need-loop-holds Inv-loop μ-loop
+unfolding sum
+loop-holds c =
+    let start = first c in
+    let a = start .args in
+    let two = c .before .before in
+    let share = share-is (a .n) (a .body .now) (side start) (a .i) (two .before .before .cell .ensures .0) (two .before .before .before .side-column .ensures) in
+    let earned = earned-is (a .n) (a .body .now) (side start) (a .i) (two .cell2 .ensures .0) (two .before .earned-column .ensures) in
+    let spent = earned-is (a .n) (a .body .now) (other (side start)) (a .i) (c .cell3 .ensures .0)
+    (c .before .earned-column2 .ensures ∙ ap earnedColumn (other-side (a .side) (start .pre .0))) in
+    (search needs, omega arith, omega arith, omega (arith, share, earned), omega (arith, spent))
 
-sum-apart-requires : tie.Need-sum-apart-requires
-sum-apart-requires c κs = column-strided (c .before .pre .2) (omega (arith, side-within (c .before)))
+add-cell : tie.Need-add-cell Inv-loop μ-loop
+add-cell c = search needs
 
-add-sum-apart-4 : tie.Need-add-sum-apart-4
-add-sum-apart-4 c = search (needs, own-within (c .before .before), side-within (c .before .before))
+side-column-requires-2 : tie.Need-side-column-requires-2 Inv-loop μ-loop
+side-column-requires-2 c κs = search needs
 
-sum-apart-requires-2 : tie.Need-sum-apart-requires-2
-sum-apart-requires-2 c κs =
-    let start = c .before .before in row-strided (start .pre .2) (omega (arith, own-within start, side-within start))
+cell-requires-4 : tie.Need-cell-requires-4 Inv-loop μ-loop
+cell-requires-4 c κs =
+    let start = start (c .before .before) in on-column (start .pre .2) (omega arith) (side start) (start .pre .1) (c .side-column2 .ensures)
 
-add-word : tie.Need-add-word
-add-word c = search (needs, side-within (c .before .before .before))
+add-credit-2 : tie.Need-add-credit-2 Inv-loop μ-loop
+add-credit-2 c = let at = c .before .before .before in omega (arith, at .loop .inv, c .cell4 .ensures .1, start at .pre .2 .desks-most)
 
-mul-word : tie.Need-mul-word
-mul-word c = search needs
+side-column-requires-3 : tie.Need-side-column-requires-3 Inv-loop μ-loop
+side-column-requires-3 c κs = search needs
 
-add-word-2 : tie.Need-add-word-2
-add-word-2 c = search (needs, side-within (c .before .before .before))
+cell-requires-5 : tie.Need-cell-requires-5 Inv-loop μ-loop
+cell-requires-5 c κs =
+    let turn = c .before .before .before in
+    let start = start (turn .before) in
+    on-column (start .pre .2) (omega arith) (side start) (turn .loop-test .taken) (c .side-column3 .ensures)
 
-word-requires : tie.Need-word-requires
-word-requires c κs = search (needs, own-within (c .before .before .before), side-within (c .before .before .before))
+add-debit : tie.Need-add-debit Inv-loop μ-loop
+add-debit c = let at = c .before .before .before .before .before in omega (arith, at .loop .inv, c .cell5 .ensures .1, start at .pre .2 .desks-most)
 
-mul-word-2 : tie.Need-mul-word-2
-mul-word-2 c = search needs
+add-j : tie.Need-add-j Inv-loop μ-loop
+add-j c = search needs
 
-add-word-3 : tie.Need-add-word-3
-add-word-3 c = search (needs, own-within (c .before .before .before .before))
+loop-less : tie.Need-loop-less Inv-loop μ-loop
+loop-less c = search needs
 
-word-requires-2 : tie.Need-word-requires-2
-word-requires-2 c κs = search (needs, own-within (c .before .before .before .before))
+loop-again : tie.Need-loop-again Inv-loop μ-loop
+loop-again c =
+    let got-at = c .before .before in
+    let at = got-at .before .before .before in
+    let start = start at in
+    let a = start .args in
+    let j = at .loop .j in
+    let p = P start in
+    let s = side start in
+    let got = give-is (a .n) (a .body .now) s j (a .i) (got-at .cell4 .ensures .0) (got-at .before .side-column2 .ensures) in
+    let gave = give-is (a .n) (a .body .now) s (a .i) j (c .cell5 .ensures .0) (c .before .side-column3 .ensures) in (
+      search needs,
+      omega (arith, at .loop .inv .1, got-at .cell4 .ensures .1),
+      omega (arith, at .loop .inv .2, c .cell5 .ensures .1),
+      omega (arith, at .loop .inv .3, got, sum-next j (λ k. p .give s k (a .i))),
+      omega (arith, at .loop .inv .4, gave, sum-next j (p .give s (a .i))),
+    )
 
-sub-word : tie.Need-sub-word
-sub-word c = search needs
-
-mul-word-3 : tie.Need-mul-word-3
-mul-word-3 c = search needs
-
-add-word-4 : tie.Need-add-word-4
-add-word-4 c = search (needs, own-within (c .before .before .before .before .before))
-
-word-requires-3 : tie.Need-word-requires-3
-word-requires-3 c κs = search (needs, own-within (c .before .before .before .before .before))
-
-add-less : tie.Need-add-less
-add-less c = search needs
-
-add-less-2 : tie.Need-add-less-2
-add-less-2 c = search needs
-
-add-less-3 : tie.Need-add-less-3
-add-less-3 c = search needs
-
-less-requires : tie.Need-less-requires
+less-requires : tie.Need-less-requires Inv-loop μ-loop
 less-requires c κs = search needs
 
-returns : tie.Need-returns
+returns : tie.Need-returns Inv-loop μ-loop
+unfolding pile.rights pile.credit pile.debit
 returns c =
-    let three = c .before in
-    let two = three .before in
-    let one = two .before in
-    let known = one .before .before .before in
-    let start = known .before in
-    let a = start .args in
-    let s = sideOf (a .side) in
-    let first : 4 * (a .n * a .side) ≡ sideAt (a .n) s = side-at (a .n) (a .side) (start .pre .0) in
-    let columns = side-columns (a .side) (start .pre .0) in
-    c .less .ensures
-    ∙ rights-of (a .n) (bodyView (a .n) (a .bytes .now) (a .at)) s (a .i)
-    (share-at (a .n) (a .bytes .now) (a .at) s (a .i) (one .word .ensures .0) (omega (arith, first)))
-    (earned-at (a .n) (a .bytes .now) (a .at) s (a .i) (two .word2 .ensures .0) (omega (arith, columns .0)))
-    (got-sum (a .n) (a .at) (a .bytes .now) s (a .i) (one .before .before .sum-apart .ensures .0) (omega (arith, first)))
-    (given-sum (a .n) (a .at) (a .bytes .now) s (a .i) (one .before .sum-apart2 .ensures .0) (omega (arith, first)))
-    (earned-at (a .n) (a .bytes .now) (a .at) (other s) (a .i) (three .word3 .ensures .0) (omega (arith, columns .1)))
+    let at = c .before .before in
+    let done : at .loop .j ≡ start at .args .n = omega arith in
+    let inv = rw done at (at .loop .inv) in
+    c .less .ensures ∙ ap₂ _-_ (inv .3) (inv .4)
 
 pub left-of-spec : {M : Type 1} → statement M
 left-of-spec =
     tie.close
     (tie.spec
-    add-row
-    mul-row
+    Inv-loop
+    μ-loop
     add-own
-    mul-own
-    add-own-2
-    mul-first
-    mul-first-2
-    add-first
-    add-sum-apart
-    add-sum-apart-2
-    mul-sum-apart
-    add-sum-apart-3
-    sum-apart-requires
-    add-sum-apart-4
-    sum-apart-requires-2
-    add-word
-    mul-word
-    add-word-2
-    word-requires
-    mul-word-2
-    add-word-3
-    word-requires-2
-    sub-word
-    mul-word-3
-    add-word-4
-    word-requires-3
-    add-less
-    add-less-2
-    add-less-3
+    side-column-requires
+    cell-requires
+    earned-column-requires
+    cell-requires-2
+    add-credit
+    sub-earned-column
+    earned-column-requires-2
+    cell-requires-3
+    loop-holds
+    add-cell
+    side-column-requires-2
+    cell-requires-4
+    add-credit-2
+    side-column-requires-3
+    cell-requires-5
+    add-debit
+    add-j
+    loop-less
+    loop-again
     less-requires
     returns)

@@ -17,7 +17,7 @@ use Rattle.rules.proofs.File.BodySize.{size-in-range}
 use Rattle.rules.proofs.File.Positions.{body-start}
 use Rattle.rules.proofs.File.Risen.{Risen, none-risen, next-risen, not-risen, all-risen}
 use Rattle.layout.specs.Positions.{asHead}
-use Rattle.layout.proofs.Sizes.{size-most, position-most, position-is}
+use Rattle.layout.proofs.Positions.{size-most, position-most, position-is}
 use Rattle.layout.proofs.Entries.{entry-says-number, entry-says-position}
 use borrow.Author.Needs.{needs}
 use Rattle.book.proofs.contents.contents_sound.Statement.{statement}

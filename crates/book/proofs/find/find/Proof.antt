@@ -9,7 +9,7 @@ use Rattle.rules.specs.Book.{bookAnswer, place}
 use Rattle.rules.proofs.File.Readable.{BookFacts, book-facts}
 use Rattle.rules.proofs.File.Positions.{entry-within, front-within}
 use Rattle.layout.specs.Positions.{asHead}
-use Rattle.layout.proofs.Sizes.{head-there}
+use Rattle.layout.proofs.Positions.{head-there}
 use Rattle.book.proofs.Lines.{desk-own, desk-11, desk-10, desk-0}
 use borrow.Author.Needs.{needs}
 use Rattle.book.proofs.find.find.Statement.{statement}

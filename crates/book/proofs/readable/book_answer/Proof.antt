@@ -13,7 +13,7 @@ use Rattle.rules.specs.Book.{headSound}
 use Rattle.rules.proofs.Loops.Logic.{holds, fails}
 use Rattle.rules.proofs.File.Positions.{entry-within, front-within}
 use Rattle.layout.specs.Positions.{asHead, bodyPosition}
-use Rattle.layout.proofs.Sizes.{head-there, position-is}
+use Rattle.layout.proofs.Positions.{head-there, position-is}
 use Rattle.book.proofs.Lines.{answer-1, answer-2, sizes, answer-3, answer-4, answer-of-bodies}
 use borrow.Author.Needs.{needs}
 use Rattle.book.proofs.readable.book_answer.Statement.{statement}

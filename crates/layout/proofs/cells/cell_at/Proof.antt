@@ -1,21 +1,21 @@
--- `cell_at` passes the rows before it, and the columns before it in its own.
+-- `cell_at` adds up the rows and the columns before the number.
 -- Assumes nothing.
-use Prim.Native.Nat.{ℕ, _+_, _*_, _≤_}
+use Prim.Native.Nat.{ℕ, _*_, _≤_}
 use native.Mathlib.Nat.{mul-le-mul}
 use native.Mathlib.Omega.{arith}
 use mathlib.Core.Path.{ap}
-use Rattle.rules.specs.Layout.{rowLength, cellAt}
 use borrow.Author.Needs.{needs}
+use Rattle.rules.specs.Layout.{rowLength, cellAt}
 use Rattle.layout.proofs.cells.cell_at.Statement.{statement}
 use Rattle.layout.proofs.cells.cell_at.Tie as tie
 
--- what the rows before it come to
+-- the rows before it are short, since there are few desks
 rows-most : (c : tie.After-row-length) → c .before .args .row * c .row-length .result ≤ 255 * 2048
 unfolding rowLength
 rows-most c =
-    let length : c .row-length .result ≤ 2048 = omega (arith, c .row-length .ensures) in
-    let row : c .before .args .row ≤ 255 = omega arith in
-    mul-le-mul row length
+    let rows : c .before .args .row ≤ 255 = omega arith in
+    let row : c .row-length .result ≤ 2048 = omega (arith, c .row-length .ensures) in
+    mul-le-mul rows row
 
 row-length-requires : tie.Need-row-length-requires
 row-length-requires c κs = search needs
@@ -31,7 +31,7 @@ add-result c = omega (arith, rows-most c)
 
 returns : tie.Need-returns
 unfolding cellAt
-returns c = let a = c .before .args in ap (λ (x : ℕ). a .row * x + a .column * 4) (c .row-length .ensures)
+returns c = omega (arith, ap (λ (x : ℕ). c .before .args .row * x) (c .row-length .ensures))
 
 pub cell-at-spec : {M : Type 1} → statement M
 cell-at-spec = tie.close (tie.spec row-length-requires mul-result mul-result-2 add-result returns)

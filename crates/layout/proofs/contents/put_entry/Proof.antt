@@ -3,7 +3,7 @@
 use native.Mathlib.Omega.{arith}
 use mathlib.Core.Path.{refl}
 use Rattle.layout.specs.Positions.{asHead}
-use Rattle.layout.proofs.Sizes.{position-most}
+use Rattle.layout.proofs.Positions.{position-most}
 use Rattle.layout.proofs.Puts.{entry-refused, entry-put}
 use borrow.Author.Needs.{needs}
 use Rattle.layout.proofs.contents.put_entry.Statement.{statement}

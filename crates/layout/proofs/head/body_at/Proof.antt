@@ -5,7 +5,7 @@ use native.Mathlib.Nat.{mul-le-mul}
 use native.Mathlib.Omega.{arith}
 use mathlib.Core.Path.{ap₂}
 use Rattle.layout.specs.Positions.{asHead, bodyPosition}
-use Rattle.layout.proofs.Sizes.{front-most, size-most}
+use Rattle.layout.proofs.Positions.{front-most, size-most}
 use borrow.Author.Needs.{needs}
 use Rattle.layout.proofs.head.body_at.Statement.{statement}
 use Rattle.layout.proofs.head.body_at.Tie as tie

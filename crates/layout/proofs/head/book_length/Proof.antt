@@ -7,7 +7,7 @@ use Rattle.rules.specs.Opening.{bufferLength}
 use Rattle.rules.proofs.Loops.Logic.{fails, holds}
 use Rattle.rules.proofs.File.Readable.{sizes-range}
 use Rattle.layout.specs.Positions.{bodyPosition}
-use Rattle.layout.proofs.Sizes.{position-is}
+use Rattle.layout.proofs.Positions.{position-is}
 use borrow.Author.Needs.{needs}
 use Rattle.layout.proofs.head.book_length.Statement.{statement}
 use Rattle.layout.proofs.head.book_length.Tie as tie

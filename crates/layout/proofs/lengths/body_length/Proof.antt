@@ -1,10 +1,10 @@
 -- `body_length` reads a table whose entries are document 01's lengths: one test says so of all eight, and antt computes it on the code's own table.
 -- Assumes nothing.
-use Prim.Native.Nat.{ℕ, _+_, _-_, _<_, _≤_}
+use Prim.Native.Nat.{ℕ, _+_, _-_, _<_}
 use native.Mathlib.Omega.{arith}
 use mathlib.Core.Path.{_≡_, refl, ap, sym, _∙_}
-use mathlib.Core.Logic.{inl, inr}
 use mathlib.Core.Bool.{true}
+use mathlib.Core.Logic.{inl, inr}
 use mathlib.Core.List.{List}
 use lib.Dec.{eqb}
 use lib.ListN.{getD}
@@ -15,7 +15,7 @@ use Rattle.rules.specs.Loops.{_and_, every}
 use Rattle.rules.specs.Layout.{deskLimit, bodyLength}
 use Rattle.rules.proofs.Loops.Every.{every-at}
 use Rattle.rules.proofs.File.BodySize.{size-in-range, size-out-of-range}
-use Rattle.layout.proofs.Sizes.{body-most}
+use Rattle.layout.proofs.Short.{body-most}
 use Rattle.layout.proofs.lengths.body_length.Statement.{statement}
 use Rattle.layout.proofs.lengths.body_length.Tie as tie
 use Rattle.layout.proofs.lengths.body_length.Reads as reads
@@ -60,4 +60,6 @@ returns-3 : tie.Need-returns-3
 returns-3 c = entry-right c ∙ sym (size-in-range _ (omega (arith, c .before .if1 .left)) (c .if2 .left))
 
 pub body-length-spec : {M : Type 1} → statement M
-body-length-spec = tie.close (tie.spec returns returns-2 sub-result mul-result array-read-result cast-result returns-3)
+body-length-spec =
+    tie.close
+    (tie.spec returns returns-2 sub-result mul-result array-read-result cast-result returns-3)

@@ -1,24 +1,20 @@
--- `row_length` is the rule for a row.
+-- `row_length` is the rule of a row's length.
 -- Assumes nothing.
 use native.Mathlib.Omega.{arith}
-use Rattle.rules.specs.Layout.{rowLength}
 use borrow.Author.Needs.{needs}
+use Rattle.rules.specs.Layout.{rowLength}
 use Rattle.layout.proofs.lengths.row_length.Statement.{statement}
 use Rattle.layout.proofs.lengths.row_length.Tie as tie
 
--- src/lengths.rt:41:5
 mul-result : tie.Need-mul-result
 mul-result c = search needs
 
--- src/lengths.rt:41:19
 add-result : tie.Need-add-result
 add-result c = search needs
 
--- src/lengths.rt:41:5
 mul-result-2 : tie.Need-mul-result-2
 mul-result-2 c = search needs
 
--- src/lengths.rt:38:1
 returns : tie.Need-returns
 unfolding rowLength
 returns c = omega arith
