@@ -9,6 +9,7 @@ use mathlib.Core.Bool.{true}
 use mathlib.Core.List.{List}
 use lib.ListN.{length}
 use borrow.Author.Tests.{le-leb, lt-ltb}
+use Rattle.rules.specs.Loops.{between}
 use Rattle.rules.specs.Refusals.{reply}
 use Rattle.rules.specs.Pile.{Side, Pile, rights, tonnage, topLimit}
 use Rattle.rules.specs.Layout.{headOf, bodyAt, bodyView, desks, pileOf}
@@ -36,8 +37,10 @@ module _ (i : ℕ) (b : List ℕ) {at : ℕ} (sound : SoundBody i b at) where
   pile-sound = facts n P (sound .passes)
 
   there : bodyThere n at (length b) ≡ true
-  unfolding bodyThere
-  there = and-both (le-leb _ _ (sound .body .desks-most)) (le-leb _ _ (sound .body .within))
+  unfolding bodyThere between
+  there =
+      let least : 1 ≤ n = omega (arith, sound .desk) in
+      and-both (and-both (le-leb _ _ least) (le-leb _ _ (sound .body .desks-most))) (le-leb _ _ (sound .body .within))
 
   pub rights-read : (s : Side) {x : ℕ} → x ≡ rightsIn s n at b i → x ≡ rights n P s i
   unfolding rightsIn

@@ -8,6 +8,7 @@ use mathlib.Core.Bool.{true}
 use mathlib.Core.List.{List}
 use lib.ListN.{length, replicate}
 use borrow.Author.Tests.{le-leb, eq-eqb}
+use Rattle.rules.specs.Loops.{between}
 use Rattle.rules.specs.Refusals.{_when_, _orElse_}
 use Rattle.rules.specs.Pile.{Side, rights, tonnage, topLimit}
 use Rattle.rules.specs.Layout.{bodyLength, bodyView}
@@ -17,7 +18,8 @@ use Rattle.rules.proofs.Pile.Agree.{Agree, rights-cong, tonnage-cong}
 use Rattle.rules.proofs.Pile.Tonnage.{tonnage-within, rights-most}
 use Rattle.rules.proofs.Record.Facts.{record-facts}
 use Rattle.audit.specs.Audits.{bodyThere, rightsIn, tonnageIn}
-use Rattle.audit.proofs.DeskRights.{square-small, desk-there, tonnage-there}
+use Rattle.layout.proofs.Short.{body-most}
+use Rattle.audit.proofs.DeskRights.{desk-there, tonnage-there}
 use Rattle.padding.specs.Lists.{recordNumbers, afterPack, listAnswer}
 use Rattle.padding.proofs.Checked.{packed-agrees}
 use Rattle.pile.specs.Inner.{PackedAs}
@@ -37,10 +39,10 @@ module _ (r : Record) (arrays : InMemory r) {answer : ℕ} {body : List ℕ} (fo
   agrees = rw (numbers-again r (arrays .shares-long) (arrays .tallies-long)) at (packed-agrees (recordNumbers r) (list-answer r arrays ∙ passed) (found .body-is))
 
   there : bodyThere (r .n) 0 (length body) ≡ true
-  unfolding bodyThere bodyLength
+  unfolding bodyThere between
   there =
-      let few = record-facts r passed .desks-most in
-      and-both (le-leb _ _ few) (le-leb (0 + bodyLength (r .n)) (length body) (omega (arith, long, square-small few)))
+      let desks = record-facts r passed in
+      and-both (and-both (le-leb _ _ (desks .desks-least)) (le-leb _ _ (desks .desks-most))) (le-leb (0 + bodyLength (r .n)) (length body) (omega (arith, long, body-most (r .n) (desks .desks-most))))
 
   pub rights-read : (s : Side) (i : ℕ) → i < r .n → rightsIn s (r .n) 0 body i ≡ rights (r .n) (recordView r) s i
   rights-read s i l = sym (desk-there s (r .n) 0 body i there l) ∙ rights-cong _ _ _ agrees s i l

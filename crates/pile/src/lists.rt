@@ -5,26 +5,14 @@ use crate::TALLIES;
 use padding::RECORD;
 use padding::SHARES_AT;
 use padding::TALLIES_AT;
+use padding::runs::copy_run;
 ghost use mathlib.Core.Path.{_≡_};
 ghost use Prim.Native.Nat.{_≤_};
 ghost use lib.ListN.{length, getD};
 ghost use lib.Seq.{sets};
 ghost use Rattle.rules.specs.Numbers.{part};
-ghost use Rattle.padding.specs.Fits.{RunFits};
 ghost use Rattle.padding.specs.Lists.{recordLength, recordNumbers, numbersRecord};
 ghost use Rattle.pile.specs.View.{asRecord};
-
-// Copies count numbers, from a place on, to the places of a list from one on.
-fn copy_run(out: &mut [u32], to: usize, numbers: &[u32], from: usize, count: usize)
-    requires { ⌜ RunFits to count (now out) from count (now numbers) ⌝ }
-    ensures { λ _. ⌜ now (out .exit) ≡ sets (now (out .entry)) to (part from count (now (numbers .entry))) ⌝ }
-{
-    let mut k = 0;
-    while k < count {
-        out[to + k] = numbers[from + k];
-        k += 1;
-    }
-}
 
 // The record's numbers.
 pub(crate) fn numbers_of(pile: Pile) -> [u32; RECORD]

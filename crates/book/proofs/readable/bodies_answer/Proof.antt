@@ -32,7 +32,7 @@ returns c =
     let h = asHead (a .head) in
     let sizes = at .pre .sizes in
     c .check-bodies .ensures ∙ ap (λ (from : ℕ). bodiesAnswer (a .head .desks) (a .head .piles) from (a .book .now)) (c .before .before .front-length .ensures)
-    ∙ orElse-passes (sym (shape-fits (a .head .desks) (a .head .piles) (frontLength h) (length (a .book .now)) (sizes .desks-least) (sizes .desks-most) (sizes .piles-most) (at .pre .sized ∙ book-end h))) _
+    ∙ orElse-passes (sym (shape-fits (a .head .desks) (a .head .piles) (frontLength h) (length (a .book .now)) (sizes .desks-least, sizes .desks-most) (sizes .piles-most) (at .pre .sized ∙ book-end h))) _
     ∙ first-cong (a .head .piles) (λ k _. ap (λ (from : ℕ). pileAnswer (a .head .desks) (bodyView (a .head .desks) (a .book .now) from)) (sym (body-start h k)))
 
 pub bodies-answer-spec : {M : Type 1} → statement M

@@ -21,7 +21,7 @@ add-result-3 : tie.Need-add-result-3
 add-result-3 c = search needs
 
 returns-3 : tie.Need-returns-3
-returns-3 c = (search needs, λ l. rw (tip-side _ (c .if2 .left)))
+returns-3 c = (search needs, λ l. rw (tip-side (c .if2 .left)))
 
 pub give-column-spec : {M : Type 1} → statement M
 give-column-spec =

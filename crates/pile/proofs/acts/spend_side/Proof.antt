@@ -20,7 +20,7 @@ enter-requires-2 c κs = search needs
 
 returns-2 : tie.Need-returns-2
 returns-2 c = c .enter2 .ensures (spend (sideOf (c .before .before .args .side)))
-    (record { side-is = refl; receiver-is = refl; column-is = λ _ _. rw (tip-side _ (c .before .if1 .left)) })
+    (record { side-is = refl; receiver-is = refl; column-is = λ _ _. rw (tip-side (c .before .if1 .left)) })
 
 pub spend-side-spec : {M : Type 1} → statement M
 spend-side-spec = tie.close (tie.spec enter-requires returns enter-requires-2 returns-2)

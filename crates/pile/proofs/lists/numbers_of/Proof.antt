@@ -1,8 +1,9 @@
 -- `numbers_of` sets n, floor and top, and copies the shares and the tallies, each behind the run before it.
 -- Assumes nothing.
-use mathlib.Core.Path.{_≡_}
+use mathlib.Core.Path.{_≡_, _∙_}
 use lib.ListN.{length}
 use Rattle.rules.specs.Record.{sharePlaces, tallyPlaces}
+use Rattle.padding.proofs.CopyLines.{copy-leaves}
 use Rattle.pile.specs.View.{asRecord}
 use Rattle.pile.proofs.RecordNumbers.{three-runs}
 use borrow.Author.Needs.{needs}
@@ -34,7 +35,7 @@ slice-aggregate-copy-run-2 : tie.Need-slice-aggregate-copy-run-2
 slice-aggregate-copy-run-2 c = search needs
 
 copy-run-requires : tie.Need-copy-run-requires
-copy-run-requires c κs = search (needs, shares (c .before .before .before .before))
+copy-run-requires c κs = search needs
 
 slice-aggregate-copy-run-3 : tie.Need-slice-aggregate-copy-run-3
 slice-aggregate-copy-run-3 c = search needs
@@ -43,15 +44,15 @@ slice-aggregate-copy-run-4 : tie.Need-slice-aggregate-copy-run-4
 slice-aggregate-copy-run-4 c = search needs
 
 copy-run-requires-2 : tie.Need-copy-run-requires-2
-copy-run-requires-2 c κs =
-    search (needs, tallies (c .before .before .before .before .before .before .before .before .before))
+copy-run-requires-2 c κs = search needs
 
 returns : tie.Need-returns
 returns c =
     let last = c .before in
     let one = last .before .before .before .before .before in
     let start = one .before .before .before .before .before in
-    three-runs (asRecord (start .args .pile)) (shares start) (tallies start) (one .copy-run .ensures) (last .copy-run2 .ensures)
+    three-runs (asRecord (start .args .pile)) (shares start) (tallies start) (one .copy-run .ensures .1 ∙ copy-leaves _ _ _ _ _ (search (needs, shares start)) (search needs))
+    (last .copy-run2 .ensures .1 ∙ copy-leaves _ _ _ _ _ (search (needs, tallies start)) (search needs))
 
 pub numbers-of-spec : {M : Type 1} → statement M
 numbers-of-spec =
