@@ -5,3 +5,4 @@ pub mod Account
 pub mod Passing
 pub mod Verdict
 pub mod DeskRights
+pub mod OfAccount

@@ -1,4 +1,3 @@
-pub mod Arrays
 pub mod ActLines
 pub mod Replies
 pub mod RecordNumbers

@@ -15,7 +15,7 @@ ghost use Rattle.rules.specs.Pile.{sameOpening};
 ghost use Rattle.rules.specs.Layout.{bodyView};
 ghost use Rattle.rules.specs.Record.{recordView};
 ghost use Rattle.padding.specs.Lists.{numbersRecord};
-ghost use Rattle.padding.specs.Fits.{RunFits, RowsFit};
+ghost use Rattle.padding.specs.Inner.{RunFits, RowsFit};
 
 // Are count numbers of a list, from a place on, those of the book from a position on? Nothing leaves the loop, so that the compiler compares several at once.
 fn same_run(book: &[u8], at: usize, numbers: &[u32], from: usize, count: usize) -> bool
