@@ -1,0 +1,3 @@
+pub mod GivenList
+pub mod GivenShares
+pub mod Opened
