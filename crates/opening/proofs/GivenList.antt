@@ -1,15 +1,23 @@
 -- The list that a book is opened from: where pile k and its numbers stand in it, and that it is short, so that no place in it wraps.
 -- Assumes nothing.
 use Prim.Native.Nat.{ℕ, _+_, _*_, _≤_, _<_}
-use native.Mathlib.Nat.{add-zero, mul-le-mul}
+use native.Mathlib.Nat.{add-zero, mul-le-mul, le-of-eq}
 use native.Mathlib.Omega.{arith}
 use mathlib.Core.Path.{_≡_, ap, sym, _∙_}
 use mathlib.Core.List.{List}
 use lib.ListN.{length, getD}
-use Rattle.rules.specs.Layout.{deskLimit, pileLimit}
+use Rattle.rules.specs.Layout.{deskLimit, pileLimit, Sizes}
 use Rattle.rules.specs.Opening.{given}
 use Rattle.rules.proofs.Loops.Ranges.{piece-within}
-use Rattle.opening.specs.Inner.{InList}
+use Rattle.opening.specs.Inner.{InList, Openings}
+
+-- a list of the right length has all its piles
+pub whole-list : {n p : ℕ} {l : List ℕ} → Sizes n p → length l ≡ p * (3 + 2 * n) → Openings n p l
+whole-list sizes long =
+    record {
+      desks-least = sizes .desks-least;
+      in-list = record { desks-most = sizes .desks-most; piles-most = sizes .piles-most; long = le-of-eq (sym long) };
+    }
 
 pub pile-in-list : {n p k : ℕ} {l : List ℕ} → InList n p l → k < p → InList n (k + 1) l
 pile-in-list {n} all k<p =

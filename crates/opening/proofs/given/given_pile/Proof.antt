@@ -48,7 +48,16 @@ fresh-requires : tie.Need-fresh-requires
 fresh-requires c κs = search needs
 
 returns : tie.Need-returns
-returns c = ?
+unfolding givenPile given
+returns c =
+    let sized = c .before .before .before in
+    let s = start sized in
+    let number = given-at (s .args .n) (s .args .numbers .now) (s .args .k) (sized .given-length .ensures) in
+    let shares = sized .before .given-shares .ensures in
+    let fresh = rw (number 1, number 2) at (c .fresh .ensures) in (
+      fresh .0 ∙ fresh-answer _ _ (λ s i. refl) (λ s i j. refl) shares (s .pre .desks-least) (s .pre .in-list .desks-most),
+      λ z. fresh .1 ∙ fresh-record _ _ (λ s i. refl) (λ s i j. refl) shares (sym (fresh .0) ∙ z),
+    )
 
 pub given-pile-spec : {M : Type 1} → statement M
 given-pile-spec =

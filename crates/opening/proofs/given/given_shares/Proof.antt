@@ -2,7 +2,7 @@
 -- Assumes nothing.
 use Prim.Native.Nat.{ℕ, _+_, _*_, _≤_}
 use native.Mathlib.Omega.{arith}
-use mathlib.Core.Path.{ap}
+use mathlib.Core.Path.{_≡_, ap, _∙_}
 use lib.ListN.{length, getD}
 use Rattle.rules.specs.Opening.{given, givenPile}
 use Rattle.opening.proofs.GivenList.{pile-there, given-at}
@@ -43,7 +43,17 @@ copy-run-requires-2 : tie.Need-copy-run-requires-2
 copy-run-requires-2 c κs = search needs
 
 returns : tie.Need-returns
-returns c = ?
+unfolding givenPile given
+returns c =
+    let two = c .before in
+    let one = two .before .before .before in
+    let sized = one .before .before in
+    let a = start sized .args in
+    let place : ℕ = a .k * sized .given-length .result in
+    let at : (i j : ℕ) → i ≡ place + j → getD (a .numbers .now) i 0 ≡ given (a .n) (a .numbers .now) (a .k) j =
+        λ i j e. ap (λ (i : ℕ). getD (a .numbers .now) i 0) e ∙ given-at (a .n) (a .numbers .now) (a .k) (sized .given-length .ensures) j in
+    copied-shares (a .n) (givenPile (a .n) (a .numbers .now) (a .k)) (a .numbers .now) (place + 3) (start sized .pre .desks-most) (omega (arith, there sized))
+    (λ j. at _ (1 + (2 + j)) (omega arith)) (λ j. at _ (1 + (2 + (a .n + j))) (omega arith)) (one .copy-run .ensures .1) (two .copy-run2 .ensures .1)
 
 pub given-shares-spec : {M : Type 1} → statement M
 given-shares-spec =
