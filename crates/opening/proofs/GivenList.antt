@@ -24,7 +24,7 @@ pile-in-list {n} all k<p =
     record { desks-most = all .desks-most; piles-most = omega arith; long = omega (arith, piece-within (3 + 2 * n) k<p) }
 
 -- by how many numbers there are of each pile, as code computes it
-module _ (n : ℕ) (l : List ℕ) (k : ℕ) {size : ℕ} (is : size ≡ 3 + 2 * n) where
+module _ (n k : ℕ) {size : ℕ} (is : size ≡ 3 + 2 * n) where
   place-is : k * size ≡ k * (3 + 2 * n)
   place-is = ap (λ (x : ℕ). k * x) is
 
@@ -34,13 +34,13 @@ module _ (n : ℕ) (l : List ℕ) (k : ℕ) {size : ℕ} (is : size ≡ 3 + 2 * 
       mul-le-mul k≤32 high
 
   -- the numbers of pile k are all there
-  pub pile-there : InList n (k + 1) l → k * size + (3 + 2 * n) ≤ length l
+  pub pile-there : {l : List ℕ} → InList n (k + 1) l → k * size + (3 + 2 * n) ≤ length l
   pile-there all = omega (arith, place-is, all .long)
 
-  pub given-at : (c : ℕ) → getD l (k * size + c) 0 ≡ given n l k c
+  pub given-at : (l : List ℕ) (c : ℕ) → getD l (k * size + c) 0 ≡ given n l k c
   unfolding given
-  given-at c = ap (λ (j : ℕ). getD l (j + c) 0) place-is
+  given-at l c = ap (λ (j : ℕ). getD l (j + c) 0) place-is
 
   -- its own number is the first of them
-  pub given-number : getD l (k * size) 0 ≡ given n l k 0
-  given-number = ap (λ (j : ℕ). getD l j 0) (sym (add-zero (k * size))) ∙ given-at 0
+  pub given-number : (l : List ℕ) → getD l (k * size) 0 ≡ given n l k 0
+  given-number l = ap (λ (j : ℕ). getD l j 0) (sym (add-zero (k * size))) ∙ given-at l 0

@@ -9,9 +9,8 @@ use mathlib.Core.List.{List}
 use lib.ListN.{length, getD, replicate, length-replicate, getD-replicate}
 use lib.Seq.{sets, length-sets}
 use Rattle.rules.specs.Loops.{list}
-use Rattle.rules.specs.Numbers.{part}
 use Rattle.rules.specs.Pile.{Side, draw, tip, Pile}
-use Rattle.rules.specs.Layout.{deskLimit, column}
+use Rattle.rules.specs.Layout.{deskLimit}
 use Rattle.rules.specs.Record.{padded, recordOf, sharePlaces}
 use Rattle.rules.proofs.Loops.Parts.{part-is}
 use Rattle.rules.proofs.Loops.Pieces.{length-list, getD-list}

@@ -1,16 +1,13 @@
 -- What an accepted opening writes, part by part: the head, an entry of the contents, a body, and front and bodies together.
 -- Assumes nothing.
-use Prim.Native.Nat.{ℕ, _+_, _*_, _≤_}
-use native.Mathlib.Nat.{zero-add}
+use Prim.Native.Nat.{ℕ, _+_, _≤_}
 use native.Mathlib.Omega.{arith}
-use mathlib.Core.Path.{_≡_, ap, ap₂, sym, _∙_}
-use mathlib.Core.List.{List, [], _∷_, _++_}
+use mathlib.Core.Path.{_≡_, ap, _∙_}
+use mathlib.Core.List.{List}
 use lib.ListN.{length}
 use lib.Seq.{sets}
 use borrow.Author.Tests.{le-ltb}
 use Rattle.rules.specs.Loops.{flat}
-use Rattle.rules.specs.Refusals.{_when_}
-use Rattle.rules.specs.Numbers.{bytes}
 use Rattle.rules.specs.Layout.{Head, headFor, bodyLength, frontLength, bodyBytes, headBytes, entryBytes, frontBytes, bookBytes, entryAt}
 use Rattle.rules.specs.Record.{Record, sharePlaces, tallyPlaces, recordOf}
 use Rattle.rules.specs.Opening.{given, givenPile, opened}
@@ -19,7 +16,7 @@ use Rattle.rules.proofs.Loops.Sets.{sets-then}
 use Rattle.rules.proofs.File.Body.{body-cong}
 use Rattle.rules.proofs.File.Front.{length-front}
 use Rattle.rules.proofs.Record.RecordOf.{length-shares, length-tallies, record-agrees}
-use Rattle.layout.specs.Positions.{bodyPosition, putHeadAnswer, afterPutHead, putEntryAnswer, afterPutEntry}
+use Rattle.layout.specs.Positions.{putHeadAnswer, afterPutHead, putEntryAnswer, afterPutEntry}
 use Rattle.layout.proofs.Positions.{position-is}
 use Rattle.padding.specs.Lists.{recordNumbers, afterPack}
 use Rattle.padding.proofs.PackLines.{pack-leaves}

@@ -40,13 +40,13 @@ unfolding afterOpening
 returns c = let number = c .before .opening-answer .ensures in (number, stays _ _ number (c .if1 .taken))
 
 put-front-requires : tie.Need-put-front-requires
-put-front-requires c κs = 
+put-front-requires c κs =
     let o = c .before in
     let f = facts o in
     record { openings = openings o; room = omega (arith, f .enough, front-within (headFor (entry o .args .n) (entry o .args .p))); rises = f .frame .rises }
 
 put-bodies-requires : tie.Need-put-bodies-requires
-put-bodies-requires c κs = 
+put-bodies-requires c κs =
     let o = c .before .before .before .before .before in
     let f = facts o in
     record { openings = openings o; room = omega (arith, f .enough); lawful = f .lawful }
@@ -56,7 +56,7 @@ same-length c = search needs
 
 returns-2 : tie.Need-returns-2
 unfolding afterOpening
-returns-2 c = 
+returns-2 c =
     let bodies = c .before .before in
     let front = bodies .before .before .before .before in
     let e = accepted (front .before .before) in

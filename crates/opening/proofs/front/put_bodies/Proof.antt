@@ -1,6 +1,6 @@
 -- `put_bodies` saves one given pile after the other, each behind the one before it.
 -- Assumes nothing.
-use Prim.Native.Nat.{_+_, _-_, _*_, _≤_}
+use Prim.Native.Nat.{_+_, _-_, _≤_}
 use native.Mathlib.Omega.{arith}
 use mathlib.Core.Path.{_≡_, ap, sym, _∙_}
 use lib.ListN.{length}
@@ -58,7 +58,7 @@ front-length-requires : tie.Need-front-length-requires Inv-loop μ-loop
 front-length-requires c κs = search needs
 
 loop-holds : tie.Need-loop-holds Inv-loop μ-loop
-loop-holds c = 
+loop-holds c =
     let a = c .before .before .before .before .before .args in
     (c .front-length .ensures ∙ ap frontLength (c .before .head-for .ensures) ∙ sym (first-body (headFor (a .n) (a .p))), none-written)
 
@@ -84,7 +84,7 @@ loop-less : tie.Need-loop-less Inv-loop μ-loop
 loop-less c = search needs
 
 loop-again : tie.Need-loop-again Inv-loop μ-loop
-loop-again c = 
+loop-again c =
     let at = turn c .before in
     let s = start at in
     let head = headFor (s .args .n) (s .args .p) in

@@ -38,11 +38,11 @@ module _ (c : tie.In-loop Inv-loop μ-loop) where
 
   there : at .loop .k * sized at .given-length .result + (3 + 2 * begin .args .n) ≤ length (begin .args .numbers .now)
   there =
-      pile-there (begin .args .n) (begin .args .numbers .now) (at .loop .k) (sized at .given-length .ensures)
+      pile-there (begin .args .n) (at .loop .k) (sized at .given-length .ensures)
       (pile-in-list (begin .pre .openings .in-list) (c .loop-test .taken))
 
   number-is : getD (begin .args .numbers .now) (at .loop .k * sized at .given-length .result) 0 ≡ given (begin .args .n) (begin .args .numbers .now) (at .loop .k) 0
-  number-is = given-number (begin .args .n) (begin .args .numbers .now) (at .loop .k) (sized at .given-length .ensures)
+  number-is = given-number (begin .args .n) (at .loop .k) (sized at .given-length .ensures) (begin .args .numbers .now)
 
   number-short : getD (begin .args .numbers .now) (at .loop .k * sized at .given-length .result) 0 < 65536
   number-short = rw number-is (number-most _ _ (begin .pre .rises) (at .loop .k) (c .loop-test .taken))
@@ -84,7 +84,7 @@ loop-less : tie.Need-loop-less Inv-loop μ-loop
 loop-less c = search needs
 
 loop-again : tie.Need-loop-again Inv-loop μ-loop
-loop-again c = 
+loop-again c =
     let put = c .before .before in
     let now = put .before .before .before in
     let s = start (now .before) in

@@ -21,7 +21,7 @@ same-length : tie.Need-same-length
 same-length c = search needs
 
 returns : tie.Need-returns
-returns c = 
+returns c =
     let contents = c .before .before in
     let head = contents .before .before .before .before in
     let start = head .before .before .before .before .before in

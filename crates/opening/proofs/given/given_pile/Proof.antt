@@ -3,7 +3,7 @@
 use Prim.Native.Nat.{_+_, _*_, _≤_}
 use mathlib.Core.Path.{refl, sym, _∙_}
 use lib.ListN.{length}
-use Rattle.rules.specs.Opening.{given, givenPile}
+use Rattle.rules.specs.Opening.{givenPile}
 use Rattle.rules.proofs.Record.Fresh.{fresh-answer, fresh-record}
 use Rattle.opening.proofs.GivenList.{pile-there, given-at}
 use borrow.Author.Needs.{needs}
@@ -15,7 +15,7 @@ start c = c .before .before .before
 
 -- the pile's numbers are in the list
 there : (c : tie.After-given-length) → let a = start c .args in a .k * c .given-length .result + (3 + 2 * a .n) ≤ length (a .numbers .now)
-there c = let a = start c .args in pile-there (a .n) (a .numbers .now) (a .k) (c .given-length .ensures) (start c .pre .in-list)
+there c = let a = start c .args in pile-there (a .n) (a .k) (c .given-length .ensures) (start c .pre .in-list)
 
 given-shares-requires : tie.Need-given-shares-requires
 given-shares-requires c κs = search needs
@@ -48,11 +48,11 @@ fresh-requires : tie.Need-fresh-requires
 fresh-requires c κs = search needs
 
 returns : tie.Need-returns
-unfolding givenPile given
+unfolding givenPile
 returns c =
     let sized = c .before .before .before in
     let s = start sized in
-    let number = given-at (s .args .n) (s .args .numbers .now) (s .args .k) (sized .given-length .ensures) in
+    let number = given-at (s .args .n) (s .args .k) (sized .given-length .ensures) (s .args .numbers .now) in
     let shares = sized .before .given-shares .ensures in
     let fresh = rw (number 1, number 2) at (c .fresh .ensures) in (
       fresh .0 ∙ fresh-answer _ _ (λ s i. refl) (λ s i j. refl) shares (s .pre .desks-least) (s .pre .in-list .desks-most),

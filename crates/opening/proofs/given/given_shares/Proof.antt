@@ -16,7 +16,7 @@ start c = c .before .before
 
 -- the pile's numbers are in the list
 there : (c : tie.After-given-length) → let a = start c .args in a .k * c .given-length .result + (3 + 2 * a .n) ≤ length (a .numbers .now)
-there c = let a = start c .args in pile-there (a .n) (a .numbers .now) (a .k) (c .given-length .ensures) (start c .pre)
+there c = let a = start c .args in pile-there (a .n) (a .k) (c .given-length .ensures) (start c .pre)
 
 given-length-requires : tie.Need-given-length-requires
 given-length-requires c κs = search needs
@@ -43,7 +43,7 @@ copy-run-requires-2 : tie.Need-copy-run-requires-2
 copy-run-requires-2 c κs = search needs
 
 returns : tie.Need-returns
-unfolding givenPile given
+unfolding givenPile
 returns c =
     let two = c .before in
     let one = two .before .before .before in
@@ -51,7 +51,7 @@ returns c =
     let a = start sized .args in
     let place : ℕ = a .k * sized .given-length .result in
     let at : (i j : ℕ) → i ≡ place + j → getD (a .numbers .now) i 0 ≡ given (a .n) (a .numbers .now) (a .k) j =
-        λ i j e. ap (λ (i : ℕ). getD (a .numbers .now) i 0) e ∙ given-at (a .n) (a .numbers .now) (a .k) (sized .given-length .ensures) j in
+    λ i j e. ap (λ (i : ℕ). getD (a .numbers .now) i 0) e ∙ given-at (a .n) (a .k) (sized .given-length .ensures) (a .numbers .now) j in
     copied-shares (a .n) (givenPile (a .n) (a .numbers .now) (a .k)) (a .numbers .now) (place + 3) (start sized .pre .desks-most) (omega (arith, there sized))
     (λ j. at _ (1 + (2 + j)) (omega arith)) (λ j. at _ (1 + (2 + (a .n + j))) (omega arith)) (one .copy-run .ensures .1) (two .copy-run2 .ensures .1)
 

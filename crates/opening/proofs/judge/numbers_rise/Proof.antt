@@ -33,10 +33,10 @@ module _ (c : tie.In-loop Inv-loop μ-loop) where
   entry = start at
 
   there : at .loop .k * sized at .given-length .result + (3 + 2 * entry .args .n) ≤ length (entry .args .numbers .now)
-  there = pile-there (entry .args .n) (entry .args .numbers .now) (at .loop .k) (sized at .given-length .ensures) (pile-in-list (entry .pre) (c .loop-test .taken))
+  there = pile-there (entry .args .n) (at .loop .k) (sized at .given-length .ensures) (pile-in-list (entry .pre) (c .loop-test .taken))
 
   number-is : getD (entry .args .numbers .now) (at .loop .k * sized at .given-length .result) 0 ≡ given (entry .args .n) (entry .args .numbers .now) (at .loop .k) 0
-  number-is = given-number (entry .args .n) (entry .args .numbers .now) (at .loop .k) (sized at .given-length .ensures)
+  number-is = given-number (entry .args .n) (at .loop .k) (sized at .given-length .ensures) (entry .args .numbers .now)
 
 given-length-requires : tie.Need-given-length-requires Inv-loop μ-loop
 given-length-requires c κs = search needs
@@ -69,7 +69,7 @@ loop-less : tie.Need-loop-less Inv-loop μ-loop
 loop-less c = search needs
 
 loop-again : tie.Need-loop-again Inv-loop μ-loop
-loop-again c = 
+loop-again c =
     let now = c .before .before .before in
     next-risen (now .before .loop .inv) (now .loop-test .taken) (number-is now) (c .before .if1 .left) (c .if2 .left)
 

@@ -61,9 +61,9 @@ given-length-requires : tie.Need-given-length-requires
 given-length-requires c κs = search needs
 
 mul-if2 : tie.Need-mul-if2
-mul-if2 c = 
+mul-if2 c =
     let a = start (c .before) .args in
-    search (needs, list-short (a .n) (a .numbers .now) (a .p) (c .given-length .ensures) (sizes (c .before) .desks-most) (sizes (c .before) .piles-most))
+    search (needs, list-short (a .n) (a .p) (c .given-length .ensures) (sizes (c .before) .desks-most) (sizes (c .before) .piles-most))
 
 returns-2 : tie.Need-returns-2
 returns-2 c = opening-3 _ _ _ _ (range (c .before .before)) (λ e. c .if2 .taken (e ∙ sym (length-is (c .before))))
@@ -72,7 +72,7 @@ numbers-rise-requires : tie.Need-numbers-rise-requires
 numbers-rise-requires c κs = openings c .in-list
 
 returns-3 : tie.Need-returns-3
-returns-3 c = 
+returns-3 c =
     let whole = c .before .before in
     opening-4 _ _ _ _ (range (whole .before .before)) (long whole) (fails (c .before .numbers-rise .ensures) (c .if3 .taken))
 
@@ -86,14 +86,14 @@ book-length-requires : tie.Need-book-length-requires
 book-length-requires c κs = search needs
 
 returns-5 : tie.Need-returns-5
-returns-5 c = 
+returns-5 c =
     let passed = c .before .before in
     let asked = passed .before in
     opening-8 _ _ _ _ (in-range asked) (whole asked) (rises asked) (asked .openings-answer .ensures) (passed .if4 .left) (c .before .book-length .ensures)
     (c .if5 .taken)
 
 returns-6 : tie.Need-returns-6
-returns-6 c = 
+returns-6 c =
     let passed = c .before .before in
     let asked = passed .before in
     opening-0 _ _ _ _ (in-range asked) (whole asked) (rises asked) (asked .openings-answer .ensures) (passed .if4 .left) (c .before .book-length .ensures)

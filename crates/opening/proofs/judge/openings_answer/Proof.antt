@@ -25,7 +25,7 @@ given-pile-requires : tie.Need-given-pile-requires Inv-loop μ-loop
 given-pile-requires c κs = search (needs, pile-in-list (c .before .before .before .pre .in-list) (c .loop-test .taken))
 
 returns : tie.Need-returns Inv-loop μ-loop
-returns c = 
+returns c =
     let now = c .before .before in refused-first (now .before .loop .inv) (now .loop-test .taken) (c .before .given-pile .ensures .0) (c .if1 .taken)
 
 add-k : tie.Need-add-k Inv-loop μ-loop
@@ -35,7 +35,7 @@ loop-less : tie.Need-loop-less Inv-loop μ-loop
 loop-less c = search needs
 
 loop-again : tie.Need-loop-again Inv-loop μ-loop
-loop-again c = 
+loop-again c =
     let now = c .before .before in next-passed (now .before .loop .inv) (now .loop-test .taken) (c .before .given-pile .ensures .0) (c .if1 .left)
 
 returns-2 : tie.Need-returns-2 Inv-loop μ-loop
