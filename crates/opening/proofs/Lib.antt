@@ -1,0 +1,4 @@
+pub mod GivenList
+pub mod GivenShares
+pub mod OpeningLines
+pub mod Opened
