@@ -15,11 +15,9 @@ use Rattle.rules.specs.Layout.{deskLimit, bodyLength, bodyView}
 use Rattle.rules.specs.Record.{padded}
 use Rattle.rules.proofs.Loops.Logic.{in-range, and-both}
 use Rattle.rules.proofs.Loops.Refusals.{when-done, when-not-done, orElse-first, orElse-rest, when-accepted, when-refused}
-use Rattle.rules.proofs.Loops.Pieces.{list-cong}
 use Rattle.rules.proofs.Pile.Facts.{PileFacts, facts}
 use Rattle.rules.proofs.Pile.Tonnage.{tonnage-within, rights-most}
-use Rattle.rules.proofs.Record.RecordOf.{padded-used, padded-unused}
-use Rattle.rules.proofs.Record.Agreeing.{padded-is}
+use Rattle.rules.proofs.Record.Padded.{padded-cong}
 use Rattle.layout.specs.Inner.{BodyWithin}
 use Rattle.audit.specs.Audits.{bodyThere, rightsIn, tonnageIn, accountAnswer, accountNumber, accountRights}
 use Rattle.audit.proofs.There.{there-within}
@@ -72,7 +70,7 @@ module _ (n at : ℕ) (b : List ℕ) where
     pub body-there : BodyWithin n at b
     body-there = there-within there
 
-    lawful : PileFacts n (bodyView n b at)
+    pub lawful : PileFacts n (bodyView n b at)
     unfolding accountAnswer
     lawful = facts n (bodyView n b at) (orElse-rest _ _ (orElse-rest _ _ passed))
 
@@ -92,6 +90,5 @@ module _ (n at : ℕ) (b : List ℕ) where
     pub rights-are : (s : Side) → list deskLimit (padded n (rightsIn s n at b)) ≡ accountRights s n at b
     unfolding accountRights
     rights-are s =
-        list-cong deskLimit (λ j _. padded-is n (rights n (bodyView n b at) s) j (padded n (rightsIn s n at b) j)
-        (λ l. sym (padded-used n (rightsIn s n at b) j l ∙ sym (desk-there s n at b j there l))) (padded-unused n (rightsIn s n at b) j))
+        padded-cong deskLimit n (rightsIn s n at b) (rights n (bodyView n b at) s) (λ i l. sym (desk-there s n at b i there l))
         ∙ sym (when-accepted _ _ _ passed)

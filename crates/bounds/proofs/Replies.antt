@@ -6,22 +6,23 @@ use native.Mathlib.Omega.{arith}
 use mathlib.Core.Path.{_≡_, ap, sym, _∙_}
 use mathlib.Core.Logic.{by-cases}
 use mathlib.Core.List.{List}
+use lib.ListN.{length}
 use borrow.Author.Tests.{ltb-true}
 use Rattle.rules.specs.Refusals.{refused, value, reply}
-use Rattle.rules.specs.Numbers.{number, part}
-use Rattle.rules.specs.Pile.{Side, Pile, rights}
-use Rattle.rules.specs.Layout.{cellAt, bodyView, desks}
-use Rattle.rules.specs.Book.{deskAnswer}
-use Rattle.rules.specs.Record.{Record, recordView, recordAnswer, recordDeskAnswer, recordRightsReply, deskStart}
+use Rattle.rules.specs.Numbers.{number}
+use Rattle.rules.specs.Pile.{Side, Pile, rights, topLimit}
+use Rattle.rules.specs.Layout.{columns, earnedColumn, cellAt, bodyView, desks}
+use Rattle.rules.specs.Record.{Record, recordView, recordAnswer, recordDeskAnswer, recordRightsReply}
 use Rattle.rules.specs.Bounds.{bound, boundReply, recordBoundReply}
 use Rattle.rules.proofs.Loops.Refusals.{orElse-first, orElse-rest, when-not-done, reply-refused, reply-value}
-use Rattle.rules.proofs.Bytes.Numbers.{number-part}
 use Rattle.rules.proofs.Record.Facts.{record-facts}
-use Rattle.rules.proofs.Record.Bounds.{rights-room}
+use Rattle.rules.proofs.Pile.Bounds.{rights-room}
+use Rattle.rules.proofs.File.Body.{earned-below}
+use Rattle.layout.proofs.Views.{cell-within}
 use Rattle.audit.specs.Audits.{rightsIn}
-use Rattle.book.specs.Within.{SoundBody}
-use Rattle.book.proofs.Bodies.{pile-sound, rights-read, sought-reply}
-use Rattle.bounds.specs.Kept.{kept}
+use Rattle.book.specs.Inner.{SoughtBody}
+use Rattle.book.proofs.Bodies.{Told, pile-sound, rights-read, rights-small, sought-reply}
+use Rattle.bounds.specs.Inner.{kept}
 use Rattle.bounds.proofs.Kept.{kept-bound}
 
 -- a reply tells whether it was refused, and its value
@@ -64,28 +65,43 @@ module _ (r : Record) (s : Side) (i : ℕ) where
         ap value (is ∙ ap (kept s (r .floor) (r .top)) (rights-told .1) ∙ kept-bound (r .n) (recordView r) s i)
         ∙ reply-value _ _ (rights-told .0)
 
--- of a book: the opening and the rights that were read of a sound body
-module _ (i : ℕ) (b : List ℕ) {at : ℕ} (sound : SoundBody i b at) (s : Side) {floor top x : ℕ} (floor-is : floor ≡ number 4 (part at (at + 8 - at) b) 0)
-    (top-is : top ≡ number 4 (part at (at + 8 - at) b) 4) (rights-are : x ≡ rightsIn s (desks b) at b i) where
+-- a number of the opening of a body at a position, read by its column
+pub opening-read : (n at : ℕ) (b : List ℕ) (s : Side) {x column from : ℕ} → column ≡ earnedColumn s → from ≡ cellAt n 0 column → x ≡ number 4 b (at + from)
+    → x ≡ number 4 b (at + cellAt n 0 (earnedColumn s))
+opening-read n at b s k≡ from≡ is = is ∙ ap (λ (k : ℕ). number 4 b (at + k)) (from≡ ∙ ap (cellAt n 0) k≡)
+
+pub opening-within : (i : ℕ) (b : List ℕ) {n at : ℕ} → SoughtBody i b n at → (s : Side) {column from : ℕ} → column ≡ earnedColumn s → from ≡ cellAt n 0 column
+    → at + from ≤ length b
+opening-within i b {n} {at} sought s k≡ from≡ =
+    rw (from≡, k≡, sought .count)
+    (omega (arith, cell-within (sought .sound .body) {row = 0} {column = earnedColumn s} (omega arith) (earned-below (desks b) s)))
+
+pub rights-fit : (i : ℕ) (b : List ℕ) {n at : ℕ} → SoughtBody i b n at → (s : Side) {x : ℕ} → x ≡ rightsIn s n at b i → x ≤ topLimit
+rights-fit i b {n} {at} sought s are = rights-small i b (sought .sound) s (are ∙ ap (λ (m : ℕ). rightsIn s m at b i) (sought .count))
+
+-- of a book: the opening and the rights that were read of a sound body of n desks
+module _ (i : ℕ) (b : List ℕ) {n at : ℕ} (sought : SoughtBody i b n at) (s : Side) {floor top x : ℕ} (floor-is : floor ≡ bodyView n b at .floor)
+    (top-is : top ≡ bodyView n b at .top) (rights-are : x ≡ rightsIn s n at b i) where
   abbrev P : Pile
   P = bodyView (desks b) b at
 
   floor-read : floor ≡ P .floor
-  unfolding cellAt
-  floor-read = floor-is ∙ number-part 4 b at (at + 8 - at) 0 (omega arith) ∙ ap (number 4 b) (omega arith)
+  floor-read = floor-is ∙ ap (λ (m : ℕ). bodyView m b at .floor) (sought .count)
 
   top-read : top ≡ P .top
-  unfolding cellAt
-  top-read = top-is ∙ number-part 4 b at (at + 8 - at) 4 (omega arith) ∙ ap (number 4 b) (omega arith)
+  top-read = top-is ∙ ap (λ (m : ℕ). bodyView m b at .top) (sought .count)
+
+  rights-there : x ≡ rights (desks b) P s i
+  rights-there = rights-read i b (sought .sound) s (rights-are ∙ ap (λ (m : ℕ). rightsIn s m at b i) (sought .count))
 
   pub room-read : floor + x ≤ top
-  room-read = rw (floor-read, top-read, rights-read i b sound s rights-are) (rights-room (desks b) P (pile-sound i b sound) s i (sound .desk))
+  room-read = rw (floor-read, top-read, rights-there) (rights-room (desks b) P (pile-sound i b (sought .sound)) s i (sought .sound .desk))
 
   pub bound-read : {y : ℕ} → y ≡ kept s floor top x → y ≡ bound (desks b) P s i
-  bound-read is = is ∙ rw (floor-read, top-read, rights-read i b sound s rights-are) (kept-bound (desks b) P s i)
+  bound-read is = is ∙ rw (floor-read, top-read, rights-there) (kept-bound (desks b) P s i)
 
 -- and what `seek` tells of a number
-module _ (i : ℕ) (b : List ℕ) (number : ℕ) {m start : ℕ} (told : (m ≡ deskAnswer i b number) × (start ≡ deskStart i b number)) where
+module _ (i : ℕ) (b : List ℕ) (number : ℕ) {m start n : ℕ} (told : Told i b number m start n) where
   pub bound-reply : (s : Side) → reply m (bound (desks b) (bodyView (desks b) b start) s i) ≡ boundReply s i b number
   unfolding boundReply
   bound-reply s = sought-reply i b number told (λ p. bound (desks b) p s i)

@@ -1,1 +1,2 @@
-pub mod Kept
+pub mod AccountBounds
+pub mod Inner

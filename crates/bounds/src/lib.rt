@@ -2,26 +2,28 @@
 mod bound;
 mod queries;
 
+use audit::accounts::Account;
+use audit::accounts::account_of;
 use book::seek;
 use bound::bounds_of;
+use layout::limits::DESKS;
 use pile::Amount;
-use pile::Holdings;
-use pile::PLACES;
 use pile::Pile;
 use queries::book_bound;
 use queries::record_bound;
 ghost use mathlib.Core.Path.{_≡_};
-ghost use Rattle.rules.specs.Pile.{draw, tip};
-ghost use Rattle.rules.specs.Record.{recordAnswer, recordTonnage, recordRights};
-ghost use Rattle.rules.specs.Bounds.{boundReply, recordBoundReply, recordBounds};
+ghost use Rattle.rules.specs.Pile.{draw, tip, tonnage};
+ghost use Rattle.rules.specs.Bounds.{boundReply, recordBoundReply};
+ghost use Rattle.audit.specs.Audits.{accountAnswer, accountNumber, accountRights};
 ghost use Rattle.pile.specs.View.{asRecord};
 ghost use Rattle.pile.specs.Replies.{asReply};
+ghost use Rattle.bounds.specs.AccountBounds.{accountBounds};
 
-// All that a record's check finds, and each desk's least and most. All is 0 past n, and where the record is refused.
+// The account of a body, and each desk's least and most. All is 0 past n, and beside a refusal's number.
 pub struct Bounded {
-    pub held: Holdings,
-    pub least: [u32; PLACES],
-    pub most: [u32; PLACES],
+    pub held: Account,
+    pub least: [u32; DESKS],
+    pub most: [u32; DESKS],
 }
 
 // The pile has at least so many tonnes, as far as a desk can be sure: floor and its draw rights; refused with 2, 5, 6, 7 or 11.
@@ -38,29 +40,31 @@ pub fn pile_most(pile: Pile, desk: u8) -> Amount
     record_bound(pile, 1, desk)
 }
 
-// The tonnage known, and the rights, the least and the most of all desks, from one check; refused with 2, 5, 6 or 7.
-pub fn pile_bounds(pile: Pile) -> Bounded
-    ensures answer { λ r. ⌜ r .held .answer ≡ recordAnswer (asRecord pile) ⌝ }
-    ensures tonnage { λ r. ⌜ r .held .tonnage ≡ recordTonnage (asRecord pile) ⌝ }
-    ensures draw { λ r. ⌜ r .held .draw ≡ recordRights draw (asRecord pile) ⌝ }
-    ensures tip { λ r. ⌜ r .held .tip ≡ recordRights tip (asRecord pile) ⌝ }
-    ensures least { λ r. ⌜ r .least ≡ recordBounds draw (asRecord pile) ⌝ }
-    ensures most { λ r. ⌜ r .most ≡ recordBounds tip (asRecord pile) ⌝ }
+// The account of the body of n desks at a position, and the least and the most of all desks beside it; refused with 2 for n, 3 where no body is there, then 5,
+// 6 or 7.
+pub fn bounds_in(bytes: &[u8], at: usize, n: u8) -> Bounded
+    ensures answer { λ r. ⌜ r .held .answer ≡ accountAnswer n at (now (bytes .entry)) ⌝ }
+    ensures floor { λ r. ⌜ r .held .floor ≡ accountNumber (λ p. p .floor) n at (now (bytes .entry)) ⌝ }
+    ensures top { λ r. ⌜ r .held .top ≡ accountNumber (λ p. p .top) n at (now (bytes .entry)) ⌝ }
+    ensures tonnage { λ r. ⌜ r .held .tonnage ≡ accountNumber (tonnage n) n at (now (bytes .entry)) ⌝ }
+    ensures draw { λ r. ⌜ r .held .draw ≡ accountRights draw n at (now (bytes .entry)) ⌝ }
+    ensures tip { λ r. ⌜ r .held .tip ≡ accountRights tip n at (now (bytes .entry)) ⌝ }
+    ensures least { λ r. ⌜ r .least ≡ accountBounds draw n at (now (bytes .entry)) ⌝ }
+    ensures most { λ r. ⌜ r .most ≡ accountBounds tip n at (now (bytes .entry)) ⌝ }
 {
-    let held = pile.holdings();
+    let held = account_of(bytes, at, n);
     let answer = held.answer;
     if answer != 0 {
         return Bounded {
             held,
-            least: [0; PLACES],
-            most: [0; PLACES],
+            least: [0; DESKS],
+            most: [0; DESKS],
         };
     }
-    let n = pile.n as usize;
     let draw = held.draw;
     let tip = held.tip;
-    let least = bounds_of(0, pile.floor, pile.top, draw, n);
-    let most = bounds_of(1, pile.floor, pile.top, tip, n);
+    let least = bounds_of(0, held.floor, held.top, draw, n);
+    let most = bounds_of(1, held.floor, held.top, tip, n);
     Bounded { held, least, most }
 }
 

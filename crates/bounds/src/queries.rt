@@ -2,17 +2,20 @@
 use crate::bound::bound_of;
 use audit::rights_in;
 use book::Sought;
+use layout::cells::cell_at;
+use layout::cells::earned_column;
 use number::get4;
 use pile::Amount;
 use pile::Pile;
 ghost use mathlib.Core.Path.{_≡_};
 ghost use Rattle.rules.specs.Refusals.{reply};
+ghost use Rattle.rules.specs.Pile.{sideOf};
 ghost use Rattle.rules.specs.Layout.{desks, bodyView};
 ghost use Rattle.rules.specs.Record.{recordRightsReply};
 ghost use Rattle.rules.specs.Bounds.{bound, recordBoundReply};
-ghost use Rattle.pile.specs.View.{asRecord, sideOf};
+ghost use Rattle.pile.specs.View.{asRecord};
 ghost use Rattle.pile.specs.Replies.{asReply};
-ghost use Rattle.book.specs.Within.{SoundBody};
+ghost use Rattle.book.specs.Inner.{SoughtBody};
 
 // The rights that keep the bound.
 fn rights_of(pile: Pile, side: u8, desk: u8) -> Amount
@@ -37,7 +40,7 @@ pub(crate) fn record_bound(pile: Pile, side: u8, desk: u8) -> Amount
 // By the rights and the opening of the body that `seek` has found. It is sought by the callers, as for the rights: with that in it the function is too long
 // to be inlined.
 pub(crate) fn book_bound(book: &[u8], side: u8, desk: u8, found: Sought) -> Amount
-    requires { ⌜ (found .answer ≡ 0 → SoundBody desk (now book) (found .start)) ⌝ }
+    requires { ⌜ (found .answer ≡ 0 → SoughtBody desk (now book) (found .desks) (found .start)) ⌝ }
     ensures { λ r. ⌜ asReply r ≡ reply (found .answer)
         (bound (desks (now (book .entry))) (bodyView (desks (now (book .entry))) (now (book .entry)) (found .start)) (sideOf side) desk) ⌝ }
 {
@@ -45,10 +48,10 @@ pub(crate) fn book_bound(book: &[u8], side: u8, desk: u8, found: Sought) -> Amou
     if refusal != 0 {
         return Amount::Refused(refusal);
     }
-    let n = book[1] as usize;
-    let start = found.start;
+    let n = found.desks;
+    let start = found.start as usize;
     let rights = rights_in(book, start, n, side, desk) as u32;
-    // Of a part that is known to be there a number is read without a test.
-    let opening = &book[start..start + 8];
-    Amount::Tonnes(bound_of(side, get4(opening, 0), get4(opening, 4), rights))
+    let floor = get4(book, start + cell_at(n, 0, earned_column(0)));
+    let top = get4(book, start + cell_at(n, 0, earned_column(1)));
+    Amount::Tonnes(bound_of(side, floor, top, rights))
 }

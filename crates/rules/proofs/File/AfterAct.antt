@@ -21,7 +21,7 @@ use Rattle.rules.proofs.Bytes.Numbers.{Octets}
 use Rattle.rules.proofs.Pile.Facts.{PileFacts, facts}
 use Rattle.rules.proofs.Pile.Acted.{sameSide, acted, Receives, ActFacts, act-facts, facts-acted, here, there}
 use Rattle.rules.proofs.Pile.Agree.{Agree}
-use Rattle.rules.proofs.File.Body.{column-below}
+use Rattle.rules.proofs.File.Body.{column-below, earned-below}
 use Rattle.rules.proofs.File.Positions.{body-within}
 use Rattle.rules.proofs.File.Cells.{cell-fits}
 use Rattle.rules.proofs.File.Readable.{book-facts}
@@ -64,10 +64,6 @@ pub act-column : (n i : ℕ) (kind : Kind) → Receives n i kind → actColumn n
 act-column n i (spend draw) r = omega arith
 act-column n i (spend tip) r = omega arith
 act-column n i (give s j) r = column-below n s j (r .0)
-
-earned-below : (n : ℕ) (s : Side) → earnedColumn s < columns n
-earned-below n draw = omega arith
-earned-below n tip = omega arith
 
 -- different places of a row have different columns
 earned-apart : (s s′ : Side) → sameSide s′ s ≡ false → earnedColumn s ≢ earnedColumn s′

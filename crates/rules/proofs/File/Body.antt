@@ -81,6 +81,10 @@ pub column-below : (n : ℕ) (s : Side) (j : ℕ) → j < n → column n s j < c
 column-below n draw j l = omega arith
 column-below n tip j l = omega arith
 
+pub earned-below : (n : ℕ) (s : Side) → earnedColumn s < columns n
+earned-below n draw = omega arith
+earned-below n tip = omega arith
+
 -- the row that is read column by column
 pub row-of-columns : (n : ℕ) (g : ℕ → ℕ) → rowOf n (g 0) (g 1) (λ s j. g (column n s j)) ≡ list (columns n) g
 unfolding rowOf list flat

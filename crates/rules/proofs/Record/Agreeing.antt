@@ -1,10 +1,8 @@
 -- A record that passes its own check is the record of every pile that agrees with it.
 -- Assumes nothing.
 use Prim.Native.Nat.{ℕ, _≤_, _<_}
-use native.Mathlib.Decide.{decLt}
-use native.Mathlib.Omega.{arith}
 use mathlib.Core.Path.{_≡_, ap₂, sym, _∙_}
-use mathlib.Core.Logic.{inl, inr, by-cases}
+use mathlib.Core.Logic.{inl, inr}
 use mathlib.Core.List.{_∷_}
 use lib.ListN.{length, getD}
 use Rattle.rules.specs.Pile.{Pile}
@@ -13,13 +11,8 @@ use Rattle.rules.specs.Record.{Record, recordView, recordOf, padded, sha
 use Rattle.rules.proofs.Pile.Agree.{Agree}
 use Rattle.rules.proofs.Record.Facts.{RecordFacts}
 use Rattle.rules.proofs.Record.Unused.{unused-share, unused-earned, unused-give}
-use Rattle.rules.proofs.Record.RecordOf.{padded-used, padded-unused, shares-are, tallies-are}
-
--- the number at a place, used or not
-pub padded-is : (n : ℕ) (f : ℕ → ℕ) (j x : ℕ) → (j < n → f j ≡ x) → (n ≤ j → x ≡ 0) → x ≡ padded n f j
-padded-is n f j x used unused =
-    by-cases (decLt j n) (λ l. sym (used l) ∙ sym (padded-used n f j l))
-    (λ l. unused (omega arith) ∙ sym (padded-unused n f j (omega arith)))
+use Rattle.rules.proofs.Record.RecordOf.{shares-are, tallies-are}
+use Rattle.rules.proofs.Record.Padded.{padded-is}
 
 module _ (r : Record) (f : RecordFacts r) where
   pub record-of-agreeing : length (r .shares) ≡ sharePlaces → length (r .tallies) ≡ tallyPlaces → (p : Pile) → Agree (r .n) p (recordView r) → recordOf (r .n) p ≡ r

@@ -1,6 +1,6 @@
 -- An array filled with numbers for n desks.
 -- Assumes nothing.
-use Prim.Native.Nat.{ℕ, _+_, _<_}
+use Prim.Native.Nat.{ℕ, _+_, _≤_, _<_}
 use native.Mathlib.Decide.{ℕ-discrete, decLt}
 use native.Mathlib.Omega.{arith}
 use mathlib.Core.Path.{_≡_, sym, _∙_}
@@ -9,8 +9,19 @@ use lib.ListN.{getD, set, length-set}
 use lib.Seq.{ext-getD, getD-set-same, getD-set-other}
 use Rattle.rules.specs.Loops.{list}
 use Rattle.rules.specs.Record.{padded}
-use Rattle.rules.proofs.Loops.Pieces.{length-list, getD-list}
+use Rattle.rules.proofs.Loops.Pieces.{length-list, getD-list, list-cong}
 use Rattle.rules.proofs.Record.RecordOf.{padded-used, padded-unused}
+
+-- the number at a place, used or not
+pub padded-is : (n : ℕ) (f : ℕ → ℕ) (j x : ℕ) → (j < n → f j ≡ x) → (n ≤ j → x ≡ 0) → x ≡ padded n f j
+padded-is n f j x used unused =
+    by-cases (decLt j n) (λ l. sym (used l) ∙ sym (padded-used n f j l))
+    (λ l. unused (omega arith) ∙ sym (padded-unused n f j (omega arith)))
+
+-- the same numbers for n desks are the same array
+pub padded-cong : (m n : ℕ) (f g : ℕ → ℕ) → ((i : ℕ) → i < n → f i ≡ g i) → list m (padded n f) ≡ list m (padded n g)
+padded-cong m n f g same =
+    list-cong m (λ j _. padded-is n g j (padded n f j) (λ l. sym (padded-used n f j l ∙ same j l)) (padded-unused n f j))
 
 -- numbers for i desks, and one more stored after them
 pub padded-next : (m i : ℕ) (f : ℕ → ℕ) → i < m → set (list m (padded i f)) i (f i) ≡ list m (padded (i + 1) f)

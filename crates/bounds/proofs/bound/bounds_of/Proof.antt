@@ -8,9 +8,9 @@ use borrow.Author.Needs.{needs}
 use Rattle.rules.specs.Loops.{list, flat}
 use Rattle.rules.specs.Layout.{deskLimit}
 use Rattle.rules.specs.Record.{padded}
-use Rattle.pile.specs.View.{sideOf}
-use Rattle.pile.proofs.Arrays.{padded-next}
-use Rattle.bounds.specs.Kept.{kept}
+use Rattle.rules.specs.Pile.{sideOf}
+use Rattle.rules.proofs.Record.Padded.{padded-next}
+use Rattle.bounds.specs.Inner.{kept}
 use Rattle.bounds.proofs.bound.bounds_of.Statement.{statement}
 use Rattle.bounds.proofs.bound.bounds_of.Tie as tie
 
@@ -24,6 +24,9 @@ abbrev μ-loop : tie.MeasureT-loop
 loop-holds : tie.Need-loop-holds Inv-loop μ-loop
 unfolding list flat
 loop-holds c = (search needs, refl)
+
+cast-desk : tie.Need-cast-desk Inv-loop μ-loop
+cast-desk c = search needs
 
 mul-bound-of : tie.Need-mul-bound-of Inv-loop μ-loop
 mul-bound-of c = search needs
@@ -61,6 +64,7 @@ bounds-of-spec =
     Inv-loop
     μ-loop
     loop-holds
+    cast-desk
     mul-bound-of
     array-read-bound-of
     bound-of-requires

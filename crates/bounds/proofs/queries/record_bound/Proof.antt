@@ -4,7 +4,8 @@ use mathlib.Core.Path.{_≡_, ap, sym, _∙_}
 use borrow.Author.Needs.{needs}
 use Rattle.rules.specs.Refusals.{value}
 use Rattle.rules.specs.Record.{recordRightsReply}
-use Rattle.pile.specs.View.{asRecord, sideOf}
+use Rattle.rules.specs.Pile.{sideOf}
+use Rattle.pile.specs.View.{asRecord}
 use Rattle.pile.specs.Replies.{asReply}
 use Rattle.bounds.proofs.Replies.{bound-refused, told-room, bound-told}
 use Rattle.bounds.proofs.queries.record_bound.Statement.{statement}

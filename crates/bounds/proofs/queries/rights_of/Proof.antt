@@ -1,7 +1,7 @@
 -- `rights_of` asks the record for the rights of the side.
 -- Assumes nothing.
 use borrow.Author.Needs.{needs}
-use Rattle.pile.proofs.Sides.{draw-side, tip-side}
+use Rattle.layout.proofs.Sides.{draw-side, tip-side}
 use Rattle.bounds.proofs.queries.rights_of.Statement.{statement}
 use Rattle.bounds.proofs.queries.rights_of.Tie as tie
 
@@ -15,7 +15,7 @@ tip-rights-requires : tie.Need-tip-rights-requires
 tip-rights-requires c κs = search needs
 
 returns-2 : tie.Need-returns-2
-returns-2 c = rw (tip-side _ (c .before .if1 .left)) (c .tip-rights .ensures)
+returns-2 c = rw (tip-side (c .before .if1 .left)) (c .tip-rights .ensures)
 
 pub rights-of-spec : {M : Type 1} → statement M
 rights-of-spec = tie.close (tie.spec draw-rights-requires returns tip-rights-requires returns-2)
