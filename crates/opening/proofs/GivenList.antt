@@ -23,7 +23,7 @@ pub pile-in-list : {n p k : ℕ} {l : List ℕ} → InList n p l → k < p → I
 pile-in-list {n} all k<p =
     record { desks-most = all .desks-most; piles-most = omega arith; long = omega (arith, piece-within (3 + 2 * n) k<p) }
 
--- by how many numbers there are of each pile, as code computes it
+-- places by how many numbers the list has for a pile, as code computes it
 module _ (n k : ℕ) {size : ℕ} (is : size ≡ 3 + 2 * n) where
   place-is : k * size ≡ k * (3 + 2 * n)
   place-is = ap (λ (x : ℕ). k * x) is

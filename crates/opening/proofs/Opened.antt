@@ -51,7 +51,7 @@ module _ (n p : ℕ) (l : List ℕ) where
   abbrev pub entry : ℕ → List ℕ
   entry = entryBytes (headFor n p) numbered
 
-  -- head and entries have room, and a position is where the body starts
+  -- a head that has room, and the contents behind it, are the front
   pub put-front : (b : List ℕ) {h : Head} {between after : List ℕ} → 4 ≤ length b → h ≡ headFor n p → between ≡ afterPutHead h b
       → after ≡ sets between 4 (flat p entry) → after ≡ sets b 0 (frontBytes (headFor n p) numbered)
   unfolding afterPutHead putHeadAnswer frontBytes headBytes
@@ -59,6 +59,7 @@ module _ (n p : ℕ) (l : List ℕ) where
       let written = when-accepted _ (sets b 0 (headBytes h)) b (not-met 8 (le-ltb _ _ room)) in
       rw (contents, head, written, is) (sets-then b 0 (headBytes (headFor n p)) 4 (flat p entry) (omega arith))
 
+  -- an entry that has room; for 1 to 8 desks the position that it is written with is where the body starts
   pub put-entry : (b : List ℕ) (k : ℕ) {h : Head} {x : ℕ} {after : List ℕ} → 1 ≤ n → n ≤ 8 → entryAt k + 6 ≤ length b → h ≡ headFor n p → x ≡ given n l k 0
       → after ≡ afterPutEntry h k x b → after ≡ sets b (entryAt k) (entry k)
   unfolding afterPutEntry putEntryAnswer entryBytes

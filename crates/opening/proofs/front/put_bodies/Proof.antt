@@ -1,4 +1,4 @@
--- `put_bodies` saves one given pile after the other, each behind the one before it.
+-- `put_bodies` writes one given pile after the other, each where the one before it ends.
 -- Assumes nothing.
 use Prim.Native.Nat.{_+_, _-_, _≤_}
 use native.Mathlib.Omega.{arith}
@@ -36,7 +36,7 @@ asked c = c .before .before .before .before .before .before .before
 abbrev turn : tie.After-slice-known2 Inv-loop μ-loop → tie.In-loop Inv-loop μ-loop
 turn c = asked c .before
 
--- the size is that of a body
+-- by 1 to 8 desks the size that was asked for is that of a body
 size-is : (c : tie.At-loop Inv-loop μ-loop) → asked-size c .body-length .result ≡ bodyLength (start c .args .n)
 size-is c =
     let s = start c in
