@@ -1,6 +1,1 @@
 pub mod Entered
-pub mod Held
-pub mod InOrder
-pub mod Marking
-pub mod Moved
-pub mod TakeLines

@@ -4,8 +4,8 @@ use Prim.Native.Nat.{ℕ}
 use Rattle.rules.specs.Pile.{draw, tip}
 use Rattle.rules.specs.Acts as rules
 use Rattle.rules.specs.Acts.{Act, spend, give}
-use Rattle.desk.specs.declared.acts.Kind.{Kind}
-use Rattle.desk.specs.declared.acts.Kind.the-variants.{Tip, Draw, GiveDraw, GiveTip}
+use Rattle.desk.specs.declared.kinds.Kind.{Kind}
+use Rattle.desk.specs.declared.kinds.Kind.the-variants.{Tip, Draw, GiveDraw, GiveTip}
 
 abbrev pub kindOf : Kind → rules.Kind
 kindOf Tip = spend tip

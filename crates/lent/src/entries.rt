@@ -7,8 +7,9 @@ ghost use mathlib.Core.Path.{_≡_};
 ghost use Prim.Native.Nat.{_<_};
 ghost use lib.ListN.{length};
 ghost use Rattle.rules.specs.Refusals.{done};
-ghost use Rattle.rules.specs.Layout.{pileNumber, position, piles};
+ghost use Rattle.rules.specs.Layout.{pileNumber, position};
 ghost use Rattle.rules.specs.Book.{contentsAnswer, afterContents};
+ghost use Rattle.layout.specs.Positions.{headIn};
 ghost use Rattle.lent.specs.Entries.{entryOf};
 
 // A line of the contents: a pile's number, and where its body starts.
@@ -33,7 +34,7 @@ pub(crate) fn contents_answer(book: &[u8], room: usize) -> u8
 
 // How many entries are filled: none where the call is refused.
 pub(crate) fn entries_filled(book: &[u8], answer: u8) -> usize
-    ensures { λ r. ⌜ r ≡ done answer (piles (now (book .entry))) 0 ⌝ }
+    ensures { λ r. ⌜ r ≡ done answer (headIn (now (book .entry)) .piles) 0 ⌝ }
 {
     if answer != 0 {
         return 0;

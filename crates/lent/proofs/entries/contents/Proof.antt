@@ -1,12 +1,13 @@
 -- `contents` stores line k of the book's contents as entry k, for each k below the number of entries filled, and leaves the rest of the list as it was.
 -- The list's borrow is opened once, before the loop, and closed once, after it. Between the two the memory is the function's own: k entries that are filled, and the rest as they were (`partly`).
 -- Assumes nothing.
-use mathlib.Core.Path.{_≡_, refl, sym, ap, subst}
+use mathlib.Core.Path.{_≡_, refl, sym, ap, subst, _∙_}
 use Prim.Native.Nat.{ℕ, _+_, _-_, _*_, _≤_, _<_, _^_, zero-le}
 use native.Mathlib.Nat.{eq-or-lt-of-le}
+use native.Mathlib.Decide.{ℕ-discrete}
 use native.Mathlib.Omega.{arith}
 use mathlib.Core.Bool.{Bool}
-use mathlib.Core.Logic.{⊎-elim}
+use mathlib.Core.Logic.{⊎-elim, by-cases}
 use mathlib.Core.WellFounded.{WellFounded, InvImage·wf}
 use mathlib.Core.List.{List, [], _∷_}
 use lib.Dec.{lit<}
@@ -49,8 +50,13 @@ use denote.Triple.Call.{calls-at}
 use denote.Triple.Table.{entered, cited}
 use denote.Triple.Walked.{says, onExit, Stays, stay-none-slice, stay-slice, walkOf, goes-none-slice, goes-slice, Walks, ends-at, walked, walk-meets}
 use denote.Exit.{yes}
-use Rattle.rules.specs.Layout.{pileNumber, position}
+use Rattle.rules.specs.Refusals.{done as if-done}
+use Rattle.rules.specs.Layout.{Head, pileNumber, position}
 use Rattle.rules.specs.Book.{contentsAnswer, afterContents}
+use Rattle.rules.proofs.Loops.Refusals.{orElse-first, when-refused}
+use Rattle.rules.proofs.File.Readable.{book-facts}
+use Rattle.layout.specs.Positions.{headIn}
+use Rattle.layout.proofs.Positions.{head-there}
 use Rattle.lent.specs.Entries.{entryOf}
 use Rattle.lent.specs.declared.entries.Entry.{Entry}
 use Rattle.rules.proofs.File.Contents.{entriesFilled, filled-within, contents-filled}
@@ -101,6 +107,14 @@ module _ {M : Type 1} (𝓤 : URA M) (H : Heap 𝓤) (A : Atoms 𝓤) (mem : Mem
 
   abbrev Reads : Contract 𝓤
   Reads = tripleOf 𝓤 H A entry-at.signature (entry-at.spec 𝓤 H A mem run)
+
+-- as many entries are filled as the head says piles: a book that is not refused has its head
+filled-is : (b : List ℕ) (room : ℕ) → if-done (contentsAnswer b room) (headIn b .piles) 0 ≡ entriesFilled b room
+unfolding contentsAnswer
+filled-is b room =
+    by-cases (ℕ-discrete (contentsAnswer b room) 0)
+    (λ z. ap (λ (h : Head). if-done (contentsAnswer b room) (h .piles) 0) (head-there b (book-facts b (orElse-first _ _ z) .long)))
+    (λ d. when-refused _ _ _ d ∙ sym (when-refused _ _ _ d))
 
 module _ {M : Type 1} (𝓤 : URA M) (H : Heap 𝓤) (A : Atoms 𝓤) (W : Given 𝓤 H A) (mem : Memory → SProp 𝓤) (run : Routine → Fun 𝓤) (κ κ′ : Lft) (q q′ : Share)
     (s : RefT (List ℕ)) (b o : ℕ) (γ : GName) (out : List Entry) (room : Room E (length out)) where
@@ -165,7 +179,9 @@ module _ {M : Type 1} (𝓤 : URA M) (H : Heap 𝓤) (A : Atoms 𝓤) (W : Given
   asks-count fits = passes 𝓤 H A W κ q s u8 answer (vint w8 answer ∷ []) (uint-makes 𝓤 H A W w8 answer _ (refl, fits)) (emp 𝓤) (id⊢ 𝓤 (emp 𝓤))
 
   counted : (w : Val) → ent 𝓤 (Counts 𝓤 H A mem run .post to-count w) (H .⇛ (⋆ 𝓤 H A (tok ∷ ‵ (usize .own count (w ∷ [])) ∷ [])))
-  counted w = returned 𝓤 H A W κ q entries-filled.ended (κ, tt) (s, (answer, tt)) usize count w
+  counted w =
+      subst (λ (m : ℕ). ent 𝓤 (Counts 𝓤 H A mem run .post to-count w) (H .⇛ (⋆ 𝓤 H A (tok ∷ ‵ (usize .own m (w ∷ [])) ∷ [])))) (filled-is book n)
+      (returned 𝓤 H A W κ q entries-filled.ended (κ, tt) (s, (answer, tt)) usize (if-done answer (headIn book .piles) 0) w)
 
   abbrev to-read : ℕ → Reads 𝓤 H A mem run .Ghost
   to-read k = (((κ, tt), (q, tt), tt, (s, (k, tt)), (v ∷ [], (vint w64 k ∷ [], tt))), tt)

@@ -1,8 +1,8 @@
 -- `receiver_wrong_for` goes by the kind: only a give has a receiver.
 -- Assumes nothing.
 use borrow.Author.Needs.{needs}
-use Rattle.desk.proofs.acts.receiver_wrong_for.Statement.{statement}
-use Rattle.desk.proofs.acts.receiver_wrong_for.Tie as tie
+use Rattle.desk.proofs.kinds.receiver_wrong_for.Statement.{statement}
+use Rattle.desk.proofs.kinds.receiver_wrong_for.Tie as tie
 
 enum-told : tie.Need-enum-told
 enum-told c = search needs
