@@ -1,0 +1,5 @@
+pub mod Held
+pub mod InOrder
+pub mod Marking
+pub mod Moved
+pub mod TakeLines
