@@ -1,3 +1,4 @@
+pub mod ByMarks
 pub mod Held
 pub mod InOrder
 pub mod Marking

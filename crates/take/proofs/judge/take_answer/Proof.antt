@@ -3,7 +3,6 @@
 use Prim.Native.Nat.{ℕ, suc, _+_, _*_, _<_}
 use native.Mathlib.Omega.{arith}
 use mathlib.Core.Path.{_≡_, ap, sym, subst, subst⁻¹, _∙_}
-use mathlib.Core.Bool.{Bool}
 use lib.Dec.{eqb}
 use borrow.Author.Needs.{needs}
 use borrow.Author.Tests.{ne-eqb}
@@ -197,7 +196,8 @@ returns-7 c =
           (comparedAt (frontLength h) (rowLength (h .desks)) (a .own .now) (a .copy .now) (k * suc (h .desks) + suc i))))) (head-is (head there))
           ∙ rows-answer _ _ (mine read) (theirs read) (same-n (four five)) (same-p five) _
           ∙ line-rows _ _ _ (own-read (one read)) (copy-read read) (desk there) (holds (test (six .before)) (six .if6 .left)),
-      λ z. subst (λ (h : Head). AllMarked h (a .own .now) (a .copy .now) _) (head-is (head there)) (call .piles-answer .ensures .1 z),
+      λ z. subst (λ (h : Head). AllMarked h (a .own .now) (a .copy .now) (call .piles-answer .last .1 .1 .1 .1 .0)) (head-is (head there))
+          (call .piles-answer .ensures .1 z),
     )
 
 pub take-answer-spec : {M : Type 1} → statement M
