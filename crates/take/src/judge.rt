@@ -16,12 +16,12 @@ ghost use lib.Dec.{eqb};
 ghost use Rattle.rules.specs.Loops.{_and_, every};
 ghost use Rattle.rules.specs.Refusals.{first};
 ghost use Rattle.rules.specs.Numbers.{part};
-ghost use Rattle.rules.specs.Layout.{rowLength, frontLength, bodyAt, desks, piles, pileNumber};
+ghost use Rattle.rules.specs.Layout.{headOf, rowLength, frontLength, pileNumber};
 ghost use Rattle.rules.specs.Rows.{compared, isAlike, isCopyLater};
 ghost use Rattle.rules.specs.Take.{rowAnswer, takeAnswer};
 ghost use Rattle.rows.specs.Comparisons.{asComparison};
-ghost use Rattle.take.specs.Both.{InBoth, Alongside, rowIn};
-ghost use Rattle.take.specs.Marks.{comparedAt, Blank, Marked, DesksAhead, PilesAhead};
+ghost use Rattle.layout.specs.Positions.{asHead};
+ghost use Rattle.take.specs.Inner.{InBoth, Alongside, openingPart, comparedAt, Blank, Marked, AllMarked, DesksAhead, PilesAhead};
 
 // The refusals of a copy are those of a book and so much more.
 const OF_COPY: u8 = 20;
@@ -154,7 +154,7 @@ fn piles_answer(own: &[u8], copy: &[u8], head: Head, desk: u8, marks: &mut [bool
 fn same_piles(own: &[u8], copy: &[u8], head: Head) -> bool
     requires { ⌜ Alongside (asHead head) (now own) (now copy) ⌝ }
     ensures { λ r. ⌜ r ≡ every (head .piles) (λ k. eqb (pileNumber (now (own .entry)) k) (pileNumber (now (copy .entry)) k)
-        and isAlike (compared (rowOf (asHead head) k (now (own .entry))) (rowOf (asHead head) k (now (copy .entry))))) ⌝ }
+        and isAlike (compared (openingPart (asHead head) k (now (own .entry))) (openingPart (asHead head) k (now (copy .entry))))) ⌝ }
 {
     let size = body_length(head.desks);
     let row = row_length(head.desks);

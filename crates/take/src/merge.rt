@@ -6,7 +6,7 @@ ghost use lib.ListN.{length, getD};
 ghost use lib.Seq.{sets};
 ghost use Rattle.rules.specs.Loops.{flat, count};
 ghost use Rattle.rules.specs.Numbers.{part};
-ghost use Rattle.take.specs.Both.{InBoth, RowsInBoth};
+ghost use Rattle.take.specs.Inner.{InBoth, RowsInBoth};
 
 // Copies count bytes over those at the same position.
 fn copy_bytes(own: &mut [u8], copy: &[u8], at: usize, count: usize)
