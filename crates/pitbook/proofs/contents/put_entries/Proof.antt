@@ -2,9 +2,9 @@
 -- Assumes nothing.
 use Prim.Native.Nat.{_-_}
 use native.Mathlib.Omega.{arith}
-use borrow.Author.Needs.{needs}
 use Rattle.rules.specs.Layout.{pileNumber, position}
 use Rattle.pitbook.proofs.Filling.{Filling, none-filled, next-filled, all-filled}
+use borrow.Author.Needs.{needs}
 use Rattle.pitbook.proofs.contents.put_entries.Statement.{statement}
 use Rattle.pitbook.proofs.contents.put_entries.Tie as tie
 
@@ -18,32 +18,23 @@ abbrev μ-loop : tie.MeasureT-loop
 loop-holds : tie.Need-loop-holds Inv-loop μ-loop
 loop-holds c = (none-filled, none-filled)
 
-mul-get2 : tie.Need-mul-get2 Inv-loop μ-loop
-mul-get2 c = search needs
+cast-place : tie.Need-cast-place Inv-loop μ-loop
+cast-place c = search needs
 
-add-get2 : tie.Need-add-get2 Inv-loop μ-loop
-add-get2 c = search needs
+pile-number-requires : tie.Need-pile-number-requires Inv-loop μ-loop
+pile-number-requires c κs = search needs
 
-get2-requires : tie.Need-get2-requires Inv-loop μ-loop
-get2-requires c κs = search needs
-
-cast-number : tie.Need-cast-number Inv-loop μ-loop
-cast-number c = search needs
-
-mul-get4 : tie.Need-mul-get4 Inv-loop μ-loop
-mul-get4 c = search needs
-
-add-get4 : tie.Need-add-get4 Inv-loop μ-loop
-add-get4 c = search needs
-
-get4-requires : tie.Need-get4-requires Inv-loop μ-loop
-get4-requires c κs = search needs
+cast-numbers : tie.Need-cast-numbers Inv-loop μ-loop
+cast-numbers c = search needs
 
 mul-numbers : tie.Need-mul-numbers Inv-loop μ-loop
 mul-numbers c = search needs
 
 slice-write-numbers : tie.Need-slice-write-numbers Inv-loop μ-loop
 slice-write-numbers c = search needs
+
+position-requires : tie.Need-position-requires Inv-loop μ-loop
+position-requires c κs = search needs
 
 mul-positions : tie.Need-mul-positions Inv-loop μ-loop
 mul-positions c = search needs
@@ -58,14 +49,13 @@ loop-less : tie.Need-loop-less Inv-loop μ-loop
 loop-less c = search needs
 
 loop-again : tie.Need-loop-again Inv-loop μ-loop
-unfolding pileNumber position
-loop-again c =
+loop-again c = 
     let turn = c .before .before in
     let inv = turn .before .loop .inv in
     let pre = turn .before .before .before .before .before .pre in
     let below = turn .loop-test .taken in (
-      next-filled (inv .0) below (pre .of-numbers) (c .before .get2 .ensures),
-      next-filled (inv .1) below (pre .of-positions) (c .get4 .ensures),
+      next-filled (inv .0) below (pre .of-numbers) (c .before .pile-number .ensures),
+      next-filled (inv .1) below (pre .of-positions) (c .position .ensures),
     )
 
 same-length : tie.Need-same-length Inv-loop μ-loop
@@ -75,7 +65,7 @@ same-length-2 : tie.Need-same-length-2 Inv-loop μ-loop
 same-length-2 c = search needs
 
 returns : tie.Need-returns Inv-loop μ-loop
-returns c =
+returns c = 
     let inv = c .before .loop .inv in (all-filled (inv .0) (omega arith), all-filled (inv .1) (omega arith))
 
 pub put-entries-spec : {M : Type 1} → statement M
@@ -85,15 +75,12 @@ put-entries-spec =
     Inv-loop
     μ-loop
     loop-holds
-    mul-get2
-    add-get2
-    get2-requires
-    cast-number
-    mul-get4
-    add-get4
-    get4-requires
+    cast-place
+    pile-number-requires
+    cast-numbers
     mul-numbers
     slice-write-numbers
+    position-requires
     mul-positions
     slice-write-positions
     add-k

@@ -1,12 +1,14 @@
 -- `pit_body` tells where the body starts that `seek` has found, and the length of every body of the book.
 -- Assumes nothing.
-use mathlib.Core.Path.{_≡_, sym, _∙_}
-use borrow.Author.Needs.{needs}
+use mathlib.Core.Path.{_≡_, ap, sym, _∙_}
 use Rattle.rules.specs.Book.{deskAnswer}
+use Rattle.rules.specs.Opening.{bodySize}
 use Rattle.rules.proofs.File.BodySize.{size-in-range}
 use Rattle.rules.proofs.File.Readable.{BookFacts, book-facts}
 use Rattle.rules.proofs.File.Found.{found-readable}
+use Rattle.rules.proofs.Record.OfBody.{found-count}
 use Rattle.pitbook.proofs.BodyTold.{told-nothing, told-body}
+use borrow.Author.Needs.{needs}
 use Rattle.pitbook.proofs.queries.pit_body.Statement.{statement}
 use Rattle.pitbook.proofs.queries.pit_body.Tie as tie
 
@@ -24,23 +26,24 @@ seek-requires : tie.Need-seek-requires
 seek-requires c κs = search needs
 
 returns : tie.Need-returns
-returns c =
+returns c = 
     let a = c .before .before .before .args in
     told-nothing _ _ (c .before .seek .ensures .0) (c .if1 .taken) (a .start .now) (a .length .now)
 
-shared-slice-read-body-size : tie.Need-shared-slice-read-body-size
-shared-slice-read-body-size c = search (needs, facts (c .before) .long)
+cast-at : tie.Need-cast-at
+cast-at c = search needs
 
-body-size-requires : tie.Need-body-size-requires
-body-size-requires c κs = search needs
+body-length-requires : tie.Need-body-length-requires
+body-length-requires c κs = search needs
 
 returns-2 : tie.Need-returns-2
-returns-2 c =
+returns-2 c = 
     let one = c .before .before in
     let a = start one .args in
     let l = one .before .seek .ensures in
     let s = facts one .sizes in
-    told-body _ _ (l .0) (one .if1 .left) (a .start .now) (a .length .now) (l .1) (c .body-size .ensures ∙ size-in-range _ (s .desks-least) (s .desks-most))
+    let size = c .body-length .ensures ∙ ap bodySize (l .1 .1 ∙ found-count 0 _ _ (located one)) ∙ size-in-range _ (s .desks-least) (s .desks-most) in
+    told-body _ _ (l .0) (one .if1 .left) (a .start .now) (a .length .now) (l .1 .0) size
 
 pub pit-body-spec : {M : Type 1} → statement M
-pit-body-spec = tie.close (tie.spec seek-requires returns shared-slice-read-body-size body-size-requires returns-2)
+pit-body-spec = tie.close (tie.spec seek-requires returns cast-at body-length-requires returns-2)
