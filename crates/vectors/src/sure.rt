@@ -1,8 +1,8 @@
 // What each desk can be sure of: the least and the most tonnes of a pile, asked of records and of books, and what is refused.
 use crate::with_tally;
+use bounds::bounds_in;
 use bounds::least;
 use bounds::most;
-use bounds::pile_bounds;
 use bounds::pile_least;
 use bounds::pile_most;
 use opening::open;
@@ -17,6 +17,7 @@ ghost use Prim.Native.Nat.{_<_};
 
 // G has 138 bytes: its body starts at 10, and desk 0's row at 42.
 const BYTES: usize = 138;
+const BODY: usize = 10;
 
 fn told(label: &[u8], low: Amount, high: Amount) {
     text(label);
@@ -49,9 +50,9 @@ fn entries(word: &[u8], list: [u32; PLACES]) {
     }
 }
 
-// All that one check of a record finds, at all 8 places.
-fn all_of(label: &[u8], pile: Pile) {
-    let found = pile_bounds(pile);
+// The account of the body of n desks at a position, and the bounds of all desks, at all 8 places.
+fn all_of(label: &[u8], bytes: &[u8], at: usize, n: u8) {
+    let found = bounds_in(bytes, at, n);
     let held = found.held;
     let draw = held.draw;
     let tip = held.tip;
@@ -60,6 +61,10 @@ fn all_of(label: &[u8], pile: Pile) {
     text(label);
     text(b":");
     entry(held.answer as u32);
+    text(b" floor");
+    entry(held.floor);
+    text(b" top");
+    entry(held.top);
     text(b" known");
     entry(held.tonnage);
     entries(b" draw", draw);
@@ -82,9 +87,6 @@ fn records(g: Pile) {
     let full = Pile::fresh(2, 10000000, 10000000, [0; 16]);
     of_record(b"floor is top, desk 0", full.pile, 0);
     of_record(b"floor is top, desk 1", full.pile, 1);
-    all_of(b"all of F", f.pile);
-    all_of(b"all of G", g);
-    all_of(b"all of a pile whose floor is its top", full.pile);
 }
 
 // A record's own refusal comes before that of the desk.
@@ -97,10 +99,6 @@ fn refused_records(g: Pile) {
     of_record(b"drawn beyond rights", with_tally(19, 1), 0);
     of_record(b"drawn beyond rights, no desk", with_tally(19, 1), 2);
     of_record(b"G, no desk", g, 3);
-    all_of(b"all of the record of all zeros", Pile::zero());
-    all_of(b"all of floor above top", turned);
-    all_of(b"all of tipped above its limit", with_tally(0, 1000000001));
-    all_of(b"all of drawn beyond rights", with_tally(19, 1));
 }
 
 // G's file: F opened, and G stored as its pile.
@@ -122,6 +120,18 @@ fn books(book: &[u8]) {
     of_book(b"file of G, no pile", book, 0, 8);
 }
 
+// Their bodies' accounts. Of 2 desks a body with no room between floor and top is another's 72 bytes.
+fn bodies(book: &[u8]) {
+    all_of(b"all of G", book, BODY, 3);
+    all_of(b"all of G, no desks", book, BODY, 0);
+    all_of(b"all of G, nine desks", book, BODY, 9);
+    all_of(b"all of G, one byte further", book, BODY + 1, 3);
+    let list = [7, 10000000, 10000000, 0, 0, 0, 0];
+    let mut full = [0u8; 82];
+    open(2, 1, &list, &mut full);
+    all_of(b"all of a pile whose floor is its top", &full, BODY, 2);
+}
+
 // A book's first bytes alone.
 fn of_first(label: &[u8], book: &[u8], count: usize) {
     if count <= book.len() {
@@ -136,6 +146,7 @@ fn spoiled(label: &[u8], book: [u8; BYTES], at: usize, byte: u8)
     let mut other = book;
     other[at] = byte;
     of_book(label, &other, 3, 7);
+    all_of(label, &other, BODY, 3);
 }
 
 fn refused_books(book: [u8; BYTES]) {
@@ -153,5 +164,6 @@ pub(crate) fn run(g: Pile) {
     refused_records(g);
     let book = file_of(g);
     books(&book);
+    bodies(&book);
     refused_books(book);
 }
