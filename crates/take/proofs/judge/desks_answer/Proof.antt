@@ -74,9 +74,10 @@ same-length c = search needs
 returns : tie.Need-returns Inv-loop μ-loop
 returns c =
     let now = c .before .before in
-    let at = now .before in
-    (rw (row-is (at .before)) at (refused-first (at .loop .inv .0) (now .loop-test .taken) (c .before .judge-row .ensures .0) (c .if1 .taken)),
-      λ z. absurd (c .if1 .taken z))
+    let at = now .before in (
+      rw (row-is (at .before)) at (refused-first (at .loop .inv .0) (now .loop-test .taken) (c .before .judge-row .ensures .0) (c .if1 .taken)),
+      λ z. absurd (c .if1 .taken z),
+    )
 
 slice-write-marks : tie.Need-slice-write-marks Inv-loop μ-loop
 slice-write-marks c = search needs
@@ -96,8 +97,10 @@ marked c =
     let at = judged .before .before in
     let inv = at .loop .inv in
     ⊎-elim
-    (λ w. (rw (w .1) (next-marked (inv .1) (omega (arith, start (at .before) .pre .room, inv .2)) (sym (w .0 .taken) ∙ judged .judge-row .ensures .1)),
-      rw (w .1, length-set) (inv .2)))
+    (λ w. (
+      rw (w .1) (next-marked (inv .1) (omega (arith, start (at .before) .pre .room, inv .2)) (sym (w .0 .taken) ∙ judged .judge-row .ensures .1)),
+      rw (w .1, length-set) (inv .2),
+    ))
     (λ w. (rw (w .1) (next-unmarked (inv .1) (sym (judged .judge-row .ensures .1) ∙ w .0 .left)), rw (w .1) (inv .2)))
     (c .if2 .came)
 
