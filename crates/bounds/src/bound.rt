@@ -22,13 +22,7 @@ pub(crate) fn bound_of(side: u8, floor: u32, top: u32, rights: u32) -> u32
 }
 
 // The bounds of n desks, from the rights of each.
-pub(crate) fn bounds_of(
-    side: u8,
-    floor: u32,
-    top: u32,
-    rights: [u32; DESKS],
-    n: u8,
-) -> [u32; DESKS]
+pub(crate) fn bounds_of(side: u8, floor: u32, top: u32, rights: [u32; DESKS], n: u8) -> [u32; DESKS]
     requires { ⌜ (n ≤ deskLimit) × ((i : ℕ) → i < n → floor + getD rights i 0 ≤ top) ⌝ }
     ensures { λ r. ⌜ r ≡ list deskLimit (padded n (λ i. kept (sideOf side) floor top (getD rights i 0))) ⌝ }
 {

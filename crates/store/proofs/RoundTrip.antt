@@ -89,6 +89,7 @@ store-fetch-numbers b number l out octets accepted room =
     let long : length l ≡ recordLength = eqb-true _ _ (when-not-done 2 _ (orElse-first _ _ (orElse-rest _ _ accepted))) in
     let as-record = stored-record b number l long (sym accepted, refl) in
     let kept = store-fetch b number (numbersRecord l) octets (list-in-memory l long) (sym (as-record .0)) in
-    rw (as-record .1)
-    (answered _ number out (kept .0) room,
-    fetched-list _ number out (kept .0) room ∙ ap recordNumbers (kept .1) ∙ list-again l long)
+    rw (as-record .1) (
+      answered _ number out (kept .0) room,
+      fetched-list _ number out (kept .0) room ∙ ap recordNumbers (kept .1) ∙ list-again l long,
+    )

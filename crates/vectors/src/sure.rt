@@ -17,6 +17,7 @@ ghost use Prim.Native.Nat.{_<_};
 
 // G has 138 bytes: its body starts at 10, and desk 0's row at 42.
 const BYTES: usize = 138;
+
 const BODY: usize = 10;
 
 fn told(label: &[u8], low: Amount, high: Amount) {

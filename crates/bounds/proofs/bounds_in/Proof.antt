@@ -17,7 +17,7 @@ account-of-requires : tie.Need-account-of-requires
 account-of-requires c κs = search needs
 
 returns : tie.Need-returns
-returns c = 
+returns c =
     let found = c .before .account-of .ensures in
     let d = c .if1 .taken in
     let none = none-kept _ _ _ (found .0) d in
@@ -25,19 +25,19 @@ returns c =
     (found .0, (found .1 .0, (found .1 .1 .0, (found .1 .1 .1 .0, (two .0, (two .1, (none draw, none tip)))))))
 
 bounds-of-requires : tie.Need-bounds-of-requires
-bounds-of-requires c κs = 
+bounds-of-requires c κs =
     let one = c .before .before in
     let found = one .before .account-of .ensures .1 in
     (few-desks _ _ _ (passed one), all-room _ _ _ (passed one) draw (found .0) (found .1 .0) (found .1 .1 .1 .0))
 
 bounds-of-requires-2 : tie.Need-bounds-of-requires-2
-bounds-of-requires-2 c κs = 
+bounds-of-requires-2 c κs =
     let one = c .before .before .before in
     let found = one .before .account-of .ensures .1 in
     (few-desks _ _ _ (passed one), all-room _ _ _ (passed one) tip (found .0) (found .1 .0) (found .1 .1 .1 .1))
 
 returns-2 : tie.Need-returns-2
-returns-2 c = 
+returns-2 c =
     let one = c .before .before .before .before in
     let answer = one .before .account-of .ensures .0 in
     let found = one .before .account-of .ensures .1 in

@@ -14,7 +14,7 @@ zero-requires : tie.Need-zero-requires
 zero-requires c κs = search needs
 
 returns : tie.Need-returns
-returns c = 
+returns c =
     let e = c .before .before .seek .ensures .0 in
     (fetch-is _ _ e, c .zero .ensures ∙ fetched-zero _ _ e (c .before .if1 .taken))
 
@@ -25,7 +25,7 @@ of-body-requires : tie.Need-of-body-requires
 of-body-requires c κs = search needs
 
 returns-2 : tie.Need-returns-2
-returns-2 c = 
+returns-2 c =
     let one = c .before .before in
     let e = one .before .seek .ensures in
     (sym (one .if1 .left) ∙ fetch-is _ _ (e .0), c .of-body .ensures ∙ fetched-found _ _ (e .0) (one .if1 .left) (e .1 .0) (e .1 .1))

@@ -41,7 +41,7 @@ same-length : tie.Need-same-length
 same-length c = search needs
 
 returns-2 : tie.Need-returns-2
-returns-2 c = 
+returns-2 c =
     let pad = c .before .before in
     let one = pad .before .before .before in
     fetch-list _ _ _ (found one) (one .before .seek .ensures .1 .0 ∙ found-start 0 _ _ (sought one)) (rw (desks-are one) at (pad .pad .ensures))

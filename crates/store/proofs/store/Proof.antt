@@ -23,7 +23,7 @@ same-length : tie.Need-same-length
 same-length c = search needs
 
 returns : tie.Need-returns
-returns c = 
+returns c =
     let stored = c .before .before in
     let made = stored .before .before .before in
     let start = made .before .before in

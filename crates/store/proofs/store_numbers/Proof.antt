@@ -91,7 +91,7 @@ same-length-3 : tie.Need-same-length-3
 same-length-3 c = search needs
 
 returns-3 : tie.Need-returns-3
-returns-3 c = 
+returns-3 c =
     let second = c .before .before in
     store-other-n _ _ _ (found (one second)) (passes second) (λ e. c .if3 .taken (e ∙ sym (desks-are (one second))))
 
@@ -99,7 +99,7 @@ cast-start : tie.Need-cast-start
 cast-start c = search needs
 
 same-opening-requires : tie.Need-same-opening-requires
-same-opening-requires c κs = 
+same-opening-requires c κs =
     let second = two (c .before .before) in
     let first = one second in
     search (needs, desks-are first, facts first .sizes .desks-most, list-sized _ (passes second), begins first, body-room _ _ (found first))
@@ -108,7 +108,7 @@ same-length-4 : tie.Need-same-length-4
 same-length-4 c = search needs
 
 returns-4 : tie.Need-returns-4
-returns-4 c = 
+returns-4 c =
     let second = two (three (c .before)) in
     store-other-opening _ _ _ (found (one second)) (passes second) (fails (opening (c .before)) (c .if4 .taken))
 
@@ -119,7 +119,7 @@ same-length-5 : tie.Need-same-length-5
 same-length-5 c = search needs
 
 returns-5 : tie.Need-returns-5
-returns-5 c = 
+returns-5 c =
     let pack = c .before .before in
     let last = pack .before .before in
     let third = three (last .before) in

@@ -31,7 +31,7 @@ returns : tie.Need-returns
 returns c = account-2 _ _ _ (no-desks _ (c .before .body-length .ensures) (c .if1 .taken))
 
 returns-2 : tie.Need-returns-2
-returns-2 c = 
+returns-2 c =
     let size = c .before .before .body-length .ensures in
     account-3 _ _ _ (some-desks _ size (c .before .if1 .left)) (omega (arith, c .if2 .taken))
 
@@ -39,7 +39,7 @@ sub-if3 : tie.Need-sub-if3
 sub-if3 c = search needs
 
 returns-3 : tie.Need-returns-3
-returns-3 c = 
+returns-3 c =
     let one = c .before .before in
     let size = one .before .body-length .ensures in
     account-3 _ _ _ (some-desks _ size (one .if1 .left)) (omega (arith, size-is _ size (one .if1 .left), c .before .if2 .left, c .if3 .taken))
@@ -66,12 +66,12 @@ slice-aggregate-body-answer-4 : tie.Need-slice-aggregate-body-answer-4
 slice-aggregate-body-answer-4 c = search needs
 
 body-answer-requires : tie.Need-body-answer-requires
-body-answer-requires c κs = 
+body-answer-requires c κs =
     let last = c .before .before .before .before .before in
     (within-from (within last), record { draws-long = refl; draw-given-long = refl; tips-long = refl; tip-given-long = refl })
 
 returns-4 : tie.Need-returns-4
-returns-4 c = 
+returns-4 c =
     let asked = c .before .before .before .before in
     let last = asked .before .before .before .before .before .before in
     let one = sized last in

@@ -31,7 +31,7 @@ account-answer-requires : tie.Need-account-answer-requires
 account-answer-requires c κs = search needs
 
 returns : tie.Need-returns
-returns c = 
+returns c =
     let a = c .before .before .before .args in
     let is = c .before .account-answer .ensures in
     let d = c .if1 .taken in
@@ -87,13 +87,20 @@ returns-2 c =
     let a = start e .args in
     let is = number-is (a .n) (a .at) (a .bytes .now) (passed e) in
     let read : (f : Pile → ℕ) → f (firstBody (a .n) (rest (a .at) (a .bytes .now))) ≡ accountNumber f (a .n) (a .at) (a .bytes .now)
-      = λ f. ap f (view-from (a .n) (a .bytes .now) (a .at)) ∙ is f in
-    let column : ℕ → ℕ = λ (k : ℕ). number 4 (rest (a .at) (a .bytes .now)) (cellAt (a .n) 0 k) in
-    ( sym (passed e)
-    , ( floor .cell .ensures .0 ∙ ap column (floor .before .earned-column .ensures) ∙ read (λ p. p .floor)
-      , ( top .cell2 .ensures .0 ∙ ap column (top .before .earned-column2 .ensures) ∙ read (λ p. p .top)
-        , ( c .tonnage-in .ensures ∙ tonnage-is _ _ _ (passed e)
-          , (tips .before .side-rights .ensures ∙ rights-are _ _ _ (passed e) draw, tips .side-rights2 .ensures ∙ rights-are _ _ _ (passed e) tip)))))
+    = λ f. ap f (view-from (a .n) (a .bytes .now) (a .at)) ∙ is f in
+    let column : ℕ → ℕ = λ (k : ℕ). number 4 (rest (a .at) (a .bytes .now)) (cellAt (a .n) 0 k) in (
+      sym (passed e),
+      (
+        floor .cell .ensures .0 ∙ ap column (floor .before .earned-column .ensures) ∙ read (λ p. p .floor),
+        (
+          top .cell2 .ensures .0 ∙ ap column (top .before .earned-column2 .ensures) ∙ read (λ p. p .top),
+          (
+            c .tonnage-in .ensures ∙ tonnage-is _ _ _ (passed e),
+            (tips .before .side-rights .ensures ∙ rights-are _ _ _ (passed e) draw, tips .side-rights2 .ensures ∙ rights-are _ _ _ (passed e) tip),
+          ),
+        ),
+      ),
+    )
 
 pub account-of-spec : {M : Type 1} → statement M
 account-of-spec =

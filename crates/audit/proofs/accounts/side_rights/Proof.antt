@@ -45,7 +45,7 @@ loop-less : tie.Need-loop-less Inv-loop μ-loop
 loop-less c = search needs
 
 loop-again : tie.Need-loop-again Inv-loop μ-loop
-loop-again c = 
+loop-again c =
     let loop = c .before .before .loop in
     (search needs, rw (loop .inv .1, c .rights-in .ensures) (padded-next deskLimit (loop .i) _ (omega (arith, c .before .before .before .before .pre .0))))
 

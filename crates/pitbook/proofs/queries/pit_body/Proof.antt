@@ -26,7 +26,7 @@ seek-requires : tie.Need-seek-requires
 seek-requires c κs = search needs
 
 returns : tie.Need-returns
-returns c = 
+returns c =
     let a = c .before .before .before .args in
     told-nothing _ _ (c .before .seek .ensures .0) (c .if1 .taken) (a .start .now) (a .length .now)
 
@@ -37,7 +37,7 @@ body-length-requires : tie.Need-body-length-requires
 body-length-requires c κs = search needs
 
 returns-2 : tie.Need-returns-2
-returns-2 c = 
+returns-2 c =
     let one = c .before .before in
     let a = start one .args in
     let l = one .before .seek .ensures in
