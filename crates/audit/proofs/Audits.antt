@@ -17,7 +17,7 @@ use Rattle.rules.proofs.Loops.Logic.{and-left, and-left-fails, and-right-fails,
 use Rattle.rules.proofs.Loops.Refusals.{when-not-done, own-refusal, orElse-passes, orElse-first, orElse-rest, none-met, first-stops, first-next}
 use Rattle.rules.proofs.Loops.Ranges.{piece-within}
 use Rattle.layout.specs.Inner.{BodyWithin, firstBody, rest}
-use Rattle.layout.proofs.Views.{view-from, within-from}
+use Rattle.layout.proofs.Views.{view-from}
 use Rattle.audit.specs.Audits.{bodyAfter, shapeAnswer, bodiesAnswer}
 
 -- the lines of the table for the shape

@@ -8,7 +8,7 @@ use mathlib.Core.List.{List}
 use lib.ListN.{length}
 use lib.Dec.{leb}
 use borrow.Author.Tests.{le-leb, lt-leb, leb-true}
-use Rattle.rules.specs.Loops.{_and_, between}
+use Rattle.rules.specs.Loops.{between}
 use Rattle.rules.specs.Layout.{deskLimit, bodyLength}
 use Rattle.rules.proofs.Loops.Logic.{same, in-range, and-both, and-left, and-right, and-left-holds, and-left-fails, and-right-fails}
 use Rattle.layout.specs.Inner.{BodyWithin}

@@ -8,7 +8,6 @@ use layout::lengths::body_length;
 use layout::limits::DESKS;
 ghost use mathlib.Core.Path.{_≡_};
 ghost use Prim.Native.Nat.{ℕ, _≤_, _<_};
-ghost use lib.ListN.{replicate};
 ghost use Rattle.rules.specs.Loops.{list};
 ghost use Rattle.rules.specs.Pile.{draw, tip, sideOf, topLimit, tonnage};
 ghost use Rattle.rules.specs.Layout.{deskLimit};

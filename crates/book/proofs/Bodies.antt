@@ -19,7 +19,7 @@ use Rattle.rules.proofs.Loops.Logic.{and-both}
 use Rattle.rules.proofs.Loops.Refusals.{reply-refused}
 use Rattle.rules.proofs.Pile.Facts.{PileFacts, facts}
 use Rattle.rules.proofs.Pile.Tonnage.{rights-most, tonnage-within}
-use Rattle.rules.proofs.File.Readable.{BookFacts, book-facts, book-lengths}
+use Rattle.rules.proofs.File.Readable.{BookFacts, book-facts}
 use Rattle.rules.proofs.File.Found.{found-readable, found-desk, found-place, desk-0-fetch}
 use Rattle.rules.proofs.Record.OfBody.{found-start, found-count}
 use Rattle.audit.specs.Audits.{bodyThere, rightsIn, tonnageIn}
@@ -63,9 +63,6 @@ module _ (i : ℕ) (b : List ℕ) (number : ℕ) (found : deskAnswer i b number 
 
   begins : start ≡ bodyAt (headOf b) (place b number)
   begins = is ∙ found-start i b number found
-
-  pub start-most : start ≤ 20932
-  start-most = omega (arith, begins, book .sized, body-within (headOf b) (place b number) (found-place i b number found), book-lengths b (found-readable i b number found) .1)
 
   pile-is : bodyView (desks b) b start ≡ pileOf b (place b number)
   unfolding pileOf

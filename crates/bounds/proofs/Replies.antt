@@ -1,6 +1,6 @@
 -- What a query for a bound replies, from what the query for the rights that keep it told, and from what a book was found to have.
 -- Assumes nothing.
-use Prim.Native.Nat.{ℕ, _+_, _-_, _≤_, _<_}
+use Prim.Native.Nat.{ℕ, _+_, _≤_, _<_}
 use native.Mathlib.Decide.{ℕ-discrete}
 use native.Mathlib.Omega.{arith}
 use mathlib.Core.Path.{_≡_, ap, sym, _∙_}
@@ -11,7 +11,7 @@ use borrow.Author.Tests.{ltb-true}
 use Rattle.rules.specs.Refusals.{refused, value, reply}
 use Rattle.rules.specs.Numbers.{number}
 use Rattle.rules.specs.Pile.{Side, Pile, rights, topLimit}
-use Rattle.rules.specs.Layout.{columns, earnedColumn, cellAt, bodyView, desks}
+use Rattle.rules.specs.Layout.{earnedColumn, cellAt, bodyView, desks}
 use Rattle.rules.specs.Record.{Record, recordView, recordAnswer, recordDeskAnswer, recordRightsReply}
 use Rattle.rules.specs.Bounds.{bound, boundReply, recordBoundReply}
 use Rattle.rules.proofs.Loops.Refusals.{orElse-first, orElse-rest, when-not-done, reply-refused, reply-value}

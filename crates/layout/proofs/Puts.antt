@@ -2,15 +2,15 @@
 -- Assumes nothing.
 use Prim.Native.Nat.{ℕ, _+_, _≤_, _<_}
 use native.Mathlib.Omega.{arith}
-use mathlib.Core.Path.{_≡_, refl, ap, _∙_}
-use mathlib.Core.List.{List, [], _++_}
+use mathlib.Core.Path.{_≡_, refl}
+use mathlib.Core.List.{List, _++_}
 use lib.ListN.{length}
 use lib.Seq.{sets, length-sets}
 use borrow.Author.Tests.{lt-ltb, le-ltb}
 use Rattle.rules.specs.Refusals.{_when_, done}
 use Rattle.rules.specs.Numbers.{bytes, afterPut}
 use Rattle.rules.specs.Layout as rules
-use Rattle.rules.specs.Layout.{entryAt, positionAt, headBytes}
+use Rattle.rules.specs.Layout.{entryAt, headBytes}
 use Rattle.rules.proofs.Loops.Sets.{sets-then}
 use Rattle.rules.proofs.Bytes.Numbers.{length-bytes}
 use Rattle.rules.proofs.Bytes.Put.{put-fits}

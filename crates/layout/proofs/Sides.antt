@@ -3,7 +3,7 @@
 use Prim.Native.Nat.{ℕ, zero, suc}
 use mathlib.Core.Path.{_≡_, refl, ap}
 use mathlib.Core.Logic.{_≢_}
-use Rattle.rules.specs.Pile.{Side, draw, tip, sideOf}
+use Rattle.rules.specs.Pile.{draw, tip, sideOf}
 
 pub draw-side : {side : ℕ} → side ≡ 0 → sideOf side ≡ draw
 draw-side e = ap sideOf e

@@ -7,7 +7,7 @@ use mathlib.Core.List.{List}
 use lib.ListN.{length, drop, length-drop}
 use lib.Seq.{take-all, getD-drop}
 use Rattle.rules.specs.Numbers.{number}
-use Rattle.rules.specs.Layout.{columns, bodyLength, cellAt, view, bodyView}
+use Rattle.rules.specs.Layout.{columns, cellAt, view, bodyView}
 use Rattle.rules.proofs.File.Cells.{cell-fits}
 use Rattle.layout.specs.Inner.{BodyWithin, firstBody, rest}
 

@@ -6,7 +6,7 @@ use native.Mathlib.Omega.{arith}
 use mathlib.Core.Path.{_≡_, sym, _∙_}
 use mathlib.Core.Bool.{true}
 use mathlib.Core.List.{List}
-use lib.ListN.{length, replicate}
+use lib.ListN.{length}
 use borrow.Author.Tests.{le-leb, eq-eqb}
 use Rattle.rules.specs.Loops.{between}
 use Rattle.rules.specs.Refusals.{_when_, _orElse_}
@@ -20,7 +20,7 @@ use Rattle.rules.proofs.Record.Facts.{record-facts}
 use Rattle.audit.specs.Audits.{bodyThere, rightsIn, tonnageIn}
 use Rattle.layout.proofs.Short.{body-most}
 use Rattle.audit.proofs.DeskRights.{desk-there, tonnage-there}
-use Rattle.padding.specs.Lists.{recordNumbers, afterPack, listAnswer}
+use Rattle.padding.specs.Lists.{recordNumbers, listAnswer}
 use Rattle.padding.proofs.Checked.{packed-agrees}
 use Rattle.pile.specs.Inner.{PackedAs}
 use Rattle.pile.proofs.RecordNumbers.{length-record, numbers-again}

@@ -9,8 +9,6 @@ use padding::runs::copy_run;
 ghost use mathlib.Core.Path.{_≡_};
 ghost use Prim.Native.Nat.{_≤_};
 ghost use lib.ListN.{length, getD};
-ghost use lib.Seq.{sets};
-ghost use Rattle.rules.specs.Numbers.{part};
 ghost use Rattle.padding.specs.Lists.{recordLength, recordNumbers, numbersRecord};
 ghost use Rattle.pile.specs.View.{asRecord};
 

@@ -7,7 +7,7 @@ use mathlib.Core.Logic.{_⊎_, inl, inr, ⊎-map}
 use mathlib.Core.Bool.{true, not}
 use mathlib.Core.List.{List}
 use Rattle.rules.specs.Pile.{Side, draw, tip, Pile}
-use Rattle.rules.specs.Layout.{columns, column, earnedColumn, rowOf, bodyRow, bookBytes}
+use Rattle.rules.specs.Layout.{columns, column, earnedColumn, rowOf, bodyRow}
 use Rattle.rules.specs.Rows.{rowOrder, isSplit, numbersOf, compared}
 use Rattle.rules.specs.Book.{bookAnswer}
 use Rattle.rules.specs.Take.{rowPart, ofCopy, sameBook, takeAnswer, taken}

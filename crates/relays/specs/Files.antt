@@ -1,9 +1,8 @@
 -- The join on bytes (6/12): the book that a file holds, the file of a book, and what two files meet in a take whatever the taker's desk.
 -- Assumes nothing.
-use Prim.Native.Nat.{ℕ, suc, _<_}
+use Prim.Native.Nat.{ℕ, suc}
 use mathlib.Core.Bool.{not}
 use mathlib.Core.List.{List}
-use lib.ListN.{getD}
 use Rattle.rules.specs.Loops.{list}
 use Rattle.rules.specs.Refusals.{_when_, _orElse_, first}
 use Rattle.rules.specs.Pile.{Pile}

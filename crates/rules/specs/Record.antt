@@ -12,7 +12,7 @@ use Rattle.rules.specs.Refusals.{_when_, _orElse_, done, Reply, reply}
 use Rattle.rules.specs.Numbers.{Octets}
 use Rattle.rules.specs.Pile.{Side, draw, tip, bothSides, Pile, openingLawful, talliesLawful, lawful, sameOpening, rights, tonnage}
 use Rattle.rules.specs.Acts.{Kind, tally, actRefusal}
-use Rattle.rules.specs.Layout.{headOf, deskLimit, columns, actColumn, view, bodyView, desks, piles, pileOf, bodyLength, bodyAt, bodyBytes}
+use Rattle.rules.specs.Layout.{headOf, deskLimit, columns, actColumn, view, bodyView, desks, pileOf, bodyLength, bodyAt, bodyBytes}
 use Rattle.rules.specs.Book.{place, fetchAnswer, deskAnswer}
 
 -- The flat arrays: the share of side s and desk j stands at 8s + j; row i of the tallies at i * rowPlaces, its columns as in a body of 8 desks.

@@ -5,7 +5,7 @@ use mathlib.Core.Path.{_≡_, ap₂, sym, _∙_}
 use mathlib.Core.Logic.{_≢_}
 use mathlib.Core.List.{List}
 use Rattle.rules.specs.Layout.{desks, pileOf}
-use Rattle.rules.specs.Book.{fetchAnswer, deskAnswer}
+use Rattle.rules.specs.Book.{deskAnswer}
 use Rattle.rules.specs.Record.{zeroRecord, bodyRecord, fetched, deskStart, deskCount}
 use Rattle.rules.proofs.Loops.Refusals.{when-refused}
 use Rattle.rules.proofs.File.Readable.{book-facts}

@@ -1,15 +1,15 @@
 -- A list of a record's length and the record that it is are one, so what holds of fetching and storing records holds of lists.
 -- Assumes nothing.
-use Prim.Native.Nat.{ℕ, zero, suc, _+_, _≤_}
+use Prim.Native.Nat.{ℕ, _+_, _≤_}
 use native.Mathlib.Omega.{arith}
-use mathlib.Core.Path.{_≡_, refl, ap, sym, subst, _∙_}
+use mathlib.Core.Path.{_≡_, refl, ap, sym, _∙_}
 use mathlib.Core.List.{List, [], _∷_, _++_}
 use lib.ListN.{length, getD}
 use lib.Seq.{sets, take-all}
 use borrow.Author.Tests.{eqb-true, ltb-false, le-ltb}
 use Rattle.rules.specs.Numbers.{part}
 use Rattle.rules.specs.Book.{fetchAnswer}
-use Rattle.rules.specs.Record.{Record, sharePlaces, tallyPlaces, fetched, recordOf, InMemory}
+use Rattle.rules.specs.Record.{Record, sharePlaces, tallyPlaces, fetched, InMemory}
 use Rattle.rules.proofs.Loops.Refusals.{when-done, when-not-done, orElse-first, orElse-rest, none-met, not-met, when-accepted}
 use Rattle.rules.proofs.Loops.Pieces.{part-add}
 use Rattle.rules.proofs.Loops.Parts.{length-part}
@@ -18,7 +18,7 @@ use Rattle.rules.proofs.Record.RecordOf.{length-shares, length-tallies}
 use Rattle.rules.proofs.Record.RoundTrip.{fetched-is, fetch-store, store-fetch}
 use Rattle.padding.specs.Lists.{sharesAt, talliesAt, recordLength, bodyNumbers, recordNumbers, numbersRecord}
 use Rattle.pile.proofs.RecordNumbers.{length-record, numbers-again}
-use Rattle.store.specs.Numbers.{fetchNumbersAnswer, afterFetchNumbers, storeNumbersAnswer, afterStoreNumbers}
+use Rattle.store.specs.Numbers.{fetchNumbersAnswer, afterFetchNumbers, storeNumbersAnswer}
 use Rattle.store.specs.Laws.{fetchedNumbers, FetchStoreNumbers, StoreFetchNumbers}
 use Rattle.store.proofs.Lists.{store-list, stored-record}
 

@@ -5,7 +5,6 @@ use mathlib.Core.Path.{_≡_}
 use mathlib.Core.List.{List}
 use lib.ListN.{length}
 use Rattle.rules.specs.Numbers.{Octets, part}
-use Rattle.rules.specs.Book.{fetchAnswer}
 use Rattle.padding.specs.Lists.{recordLength}
 use Rattle.store.specs.Numbers.{fetchNumbersAnswer, afterFetchNumbers, storeNumbersAnswer, afterStoreNumbers}
 

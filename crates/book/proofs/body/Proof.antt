@@ -11,7 +11,6 @@ use Rattle.rules.specs.Opening.{bodySize}
 use Rattle.rules.proofs.File.BodySize.{size-in-range}
 use Rattle.rules.proofs.File.Readable.{BookFacts, book-facts}
 use Rattle.rules.proofs.File.Positions.{body-within}
-use Rattle.layout.specs.Positions.{asHead}
 use Rattle.layout.proofs.Positions.{head-there}
 use Rattle.book.proofs.Replies.{HasPlace, has-place, part-refused, start-refused, part-found, start-found}
 use borrow.Author.Needs.{needs}

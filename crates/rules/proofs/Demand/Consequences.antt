@@ -16,7 +16,7 @@ use Rattle.history.proofs.Demand.{claim-within}
 use Rattle.history.proofs.Refuted.{own-newest-copy}
 use Rattle.rules.specs.Pile.{tonnage}
 use Rattle.rules.specs.Acts.{Act}
-use Rattle.rules.specs.Layout.{headFor, bookLength, desks, piles, pileNumber, pileOf}
+use Rattle.rules.specs.Layout.{desks, piles, pileNumber, pileOf}
 use Rattle.rules.specs.Opening.{Opens, opened}
 use Rattle.rules.specs.Book.{place}
 use Rattle.rules.specs.Take.{takeAnswer}

@@ -1,19 +1,19 @@
 -- A book written from lawful piles under rising numbers is readable, and its bytes are bytes.
 -- Assumes nothing.
-use Prim.Native.Nat.{ℕ, zero, suc, _<_}
+use Prim.Native.Nat.{ℕ, suc, _<_}
 use native.Mathlib.Omega.{arith}
 use mathlib.Core.Path.{_≡_, refl, ap, _∙_}
 use mathlib.Core.Bool.{true}
-use mathlib.Core.List.{List, [], _∷_, _++_}
+use mathlib.Core.List.{List}
 use lib.Dec.{lit<, eqb}
 use Rattle.rules.specs.Loops.{flat, index}
-use Rattle.rules.specs.Numbers.{bytes, encode}
+use Rattle.rules.specs.Numbers.{encode}
 use Rattle.rules.specs.Pile.{Pile}
 use Rattle.rules.specs.Layout.{Sizes, headFor, desks, piles, pileNumber, pileOf, frontBytes, bodyBytes, bodyRow, bookBytes}
 use Rattle.rules.specs.Opening.{rising}
 use Rattle.rules.specs.Book.{bookAnswer, place}
 use Rattle.rules.proofs.Loops.Every.{index-cong}
-use Rattle.rules.proofs.Bytes.Numbers.{Octets, octets-bytes, octets-append, octets-flat, octets-encode}
+use Rattle.rules.proofs.Bytes.Numbers.{Octets, octets-append, octets-flat, octets-encode}
 use Rattle.rules.proofs.Pile.Facts.{PileFacts, passes}
 use Rattle.rules.proofs.Pile.Agree.{Agree, agree-sym, facts-cong}
 use Rattle.rules.proofs.File.Body.{lawful-fits}

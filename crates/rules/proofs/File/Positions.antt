@@ -4,9 +4,7 @@ use Prim.Native.Nat.{ℕ, _+_, _*_, _≤_, _<_}
 use native.Mathlib.Nat.{mul-le-mul, zero-mul, add-zero}
 use native.Mathlib.Omega.{arith}
 use mathlib.Core.Path.{_≡_, refl, ap, _∙_}
-use mathlib.Core.List.{List}
-use lib.ListN.{length}
-use Rattle.rules.specs.Layout.{Sizes, Head, headFor, bodyLength, entryAt, frontLength, bodyAt, bookLength, frontBytes, headBytes, entryBytes}
+use Rattle.rules.specs.Layout.{Sizes, Head, headFor, bodyLength, entryAt, frontLength, bodyAt, bookLength}
 use Rattle.rules.proofs.Loops.Ranges.{piece-within}
 
 module _ (h : Head) where

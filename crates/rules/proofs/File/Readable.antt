@@ -1,11 +1,11 @@
 -- A book is readable exactly where these plain facts hold of its bytes; so it is what writing its parts gives, and has 42 to 20,932 bytes.
 -- Assumes nothing.
-use Prim.Native.Nat.{ℕ, _+_, _≤_, _<_}
+use Prim.Native.Nat.{ℕ, _≤_, _<_}
 use native.Mathlib.Omega.{arith}
 use mathlib.Core.Path.{_≡_, refl, ap, ap₂, sym, _∙_}
 use mathlib.Core.Bool.{true}
 use mathlib.Core.List.{List}
-use lib.ListN.{length, getD}
+use lib.ListN.{length}
 use lib.Dec.{lit≤}
 use borrow.Author.Tests.{ltb-false, eqb-true, le-leb, le-ltb, eq-eqb}
 use Rattle.rules.specs.Loops.{between}

@@ -3,14 +3,14 @@
 use Prim.Native.Nat.{ℕ, _+_, _*_, _^_, _≤_, _<_}
 use native.Mathlib.Nat.{le-of-eq, zero-add, add-zero}
 use native.Mathlib.Omega.{arith}
-use mathlib.Core.Path.{_≡_, refl, ap, ap₂, sym, _∙_}
+use mathlib.Core.Path.{_≡_, ap, ap₂, sym, _∙_}
 use mathlib.Core.List.{List, _++_}
-use lib.ListN.{length, getD, length-append}
+use lib.ListN.{length, length-append}
 use lib.Seq.{take-all}
 use Rattle.rules.specs.Loops.{flat}
 use Rattle.rules.specs.Numbers.{part}
 use Rattle.rules.specs.Pile.{Pile}
-use Rattle.rules.specs.Layout.{Head, headOf, headFor, bodyLength, frontLength, bodyAt, bookLength, bodyView, desks, piles, pileNumber, position, pileOf, headBytes, frontBytes, bodyBytes, bookBytes}
+use Rattle.rules.specs.Layout.{Head, headOf, headFor, bodyLength, frontLength, bodyAt, bookLength, bodyView, pileNumber, position, pileOf, headBytes, frontBytes, bodyBytes, bookBytes}
 use Rattle.rules.proofs.Loops.Pieces.{flat-cong, length-flat, flat-parts, part-add, part-front, part-behind, part-in-flat}
 use Rattle.rules.proofs.Bytes.Numbers.{Octets}
 use Rattle.rules.proofs.Pile.Agree.{Agree}

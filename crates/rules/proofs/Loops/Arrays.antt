@@ -1,12 +1,11 @@
 -- A loop that stores one element of an array after the other, and adds one term of a sum after the other.
 -- Assumes nothing.
-use Prim.Native.Nat.{ℕ, _+_, _≤_, _<_}
-use native.Mathlib.Decide.{ℕ-discrete}
+use Prim.Native.Nat.{ℕ, _+_, _<_}
 use native.Mathlib.Nat.{le-of-suc-le-suc, eq-or-lt-of-le}
 use native.Mathlib.Numerals.{add-one}
 use native.Mathlib.Omega.{arith}
-use mathlib.Core.Path.{_≡_, ap, subst, subst⁻¹, sym}
-use mathlib.Core.Logic.{⊎-elim, by-cases}
+use mathlib.Core.Path.{_≡_, ap, subst, sym}
+use mathlib.Core.Logic.{⊎-elim}
 use mathlib.Core.List.{List}
 use lib.ListN.{length, getD, set}
 use lib.Seq.{getD-set-same, getD-set-other}
@@ -24,10 +23,3 @@ set-next P l j v h j<l new k k<j =
     (λ k≡j. subst (λ (k : ℕ). P k (getD (set l j v) k 0)) (sym k≡j) (subst (P j) (sym (getD-set-same l j v 0 j<l)) new))
     (λ k<j. subst (P k) (sym (getD-set-other l j k v 0 (λ e. omega arith))) (h k k<j))
     (eq-or-lt-of-le (le-of-suc-le-suc (subst (λ (n : ℕ). k < n) (add-one j) k<j)))
-
--- a bound of an element and of what is stored
-pub set-at-most : (l : List ℕ) (i v k most : ℕ) → i < length l → getD l k 0 ≤ most → v ≤ most → getD (set l i v) k 0 ≤ most
-set-at-most l i v k most i<l old new =
-    by-cases (ℕ-discrete k i)
-    (λ e. subst⁻¹ (λ (j : ℕ). getD (set l i v) j 0 ≤ most) e (subst⁻¹ (λ (x : ℕ). x ≤ most) (getD-set-same l i v 0 i<l) new))
-    (λ d. subst⁻¹ (λ (x : ℕ). x ≤ most) (getD-set-other l i k v 0 d) old)

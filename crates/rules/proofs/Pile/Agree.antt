@@ -2,19 +2,17 @@
 -- Assumes nothing.
 use Prim.Native.Nat.{ℕ, _+_, _-_, _≤_, _<_}
 use mathlib.Core.Path.{_≡_, refl, ap, ap₂, sym, subst, _∙_}
-use mathlib.Core.Logic.{⊎-elim}
 use mathlib.Core.Bool.{Bool, cond, true}
 use lib.Dec.{leb, eqb}
 use borrow.Author.Tests.{eq-eqb}
 use Rattle.rules.specs.Loops.{_and_, every}
 use Rattle.rules.specs.Pile.{Side, draw, tip, other, bothSides, Pile, credit, debit, rights, tallyLimit, lawful, tonnage, openingLawful, talliesLawful, pileAnswer, sameOpening}
-use Rattle.rules.specs.Refusals.{_when_, _orElse_}
-use Rattle.rules.specs.Acts.{Kind, spend, give, side, tally, receiverWrong, actRefusal}
-use Rattle.rules.proofs.Loops.Logic.{decided, and-both}
+use Rattle.rules.specs.Acts.{Kind, spend, give, side, tally}
+use Rattle.rules.proofs.Loops.Logic.{and-both}
 use Rattle.rules.proofs.Loops.Every.{every-cong, every-all}
 use Rattle.rules.proofs.Loops.Sums.{sum-cong}
 use Rattle.rules.proofs.Pile.Facts.{OpeningFacts, PileFacts, both-all}
-use Rattle.rules.proofs.Pile.Acted.{sameSide, acted, Receives, receiver, ActFacts}
+use Rattle.rules.proofs.Pile.Acted.{sameSide, acted, Receives, ActFacts}
 
 -- two piles have the same numbers, as far as n desks go
 pub record Agree (n : ℕ) (p q : Pile) : Type 0 where
@@ -118,13 +116,6 @@ module _ (n : ℕ) (p q : Pile) (a : Agree n p q) where
   pub tally-cong : (i : ℕ) (kind : Kind) → i < n → Receives n i kind → tally p i kind ≡ tally q i kind
   tally-cong i (spend s) l r = a .earned (other s) i l
   tally-cong i (give s j) l r = a .give s i j l (r .0)
-
-  -- a wrong receiver is refused before the tally is read
-  pub act-refusal-cong : (i : ℕ) (kind : Kind) (t : ℕ) → i < n → actRefusal n p i kind t ≡ actRefusal n q i kind t
-  unfolding actRefusal _when_ _orElse_
-  act-refusal-cong i kind t l =
-      ⊎-elim (λ wrong. rw wrong) (λ right. rw (rights-cong (side kind) i l, tally-cong i kind l (receiver n i kind right)))
-      (decided (receiverWrong n i kind))
 
   pub act-facts-cong : (i : ℕ) (kind : Kind) (t : ℕ) → i < n → ActFacts n p i kind t → ActFacts n q i kind t
   act-facts-cong i kind t l f =

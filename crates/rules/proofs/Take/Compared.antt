@@ -1,13 +1,13 @@
 -- Two rows that stand in bytes: where they have one length of a row they are compared number by number, and elsewhere refused.
 -- Assumes nothing.
 use Prim.Native.Nat.{ℕ}
-use mathlib.Core.Path.{_≡_, refl, ap, _∙_}
+use mathlib.Core.Path.{_≡_, refl, _∙_}
 use mathlib.Core.Bool.{Bool, true, false, cond, not, true≢false}
 use mathlib.Core.List.{List}
 use lib.ListN.{length}
 use borrow.Author.Tests.{eq-eqb, ne-eqb}
 use Rattle.rules.specs.Loops.{_and_}
-use Rattle.rules.specs.Rows.{atLeast, Comparison, bothAlike, refused, rowOrder, isAlike, isCopyLater, isSplit, numbersOf, places, isRowLength, compared, handedOn, laterRow}
+use Rattle.rules.specs.Rows.{atLeast, bothAlike, refused, rowOrder, isAlike, isCopyLater, isSplit, numbersOf, places, isRowLength, compared, handedOn, laterRow}
 use Rattle.rules.proofs.Loops.Logic.{and-right-fails}
 use Rattle.rules.proofs.Take.RowOrder.{orderBy, row-order, itself-alike}
 
@@ -67,10 +67,6 @@ module _ (a b : List ℕ) where
 module _ (a : List ℕ) (row : isRowLength (length a) ≡ true) where
   pub itself : compared a a ≡ bothAlike
   itself = compared-rows a a row refl ∙ itself-alike (places a) (numbersOf a)
-
-  -- a copy that is taken again adds nothing
-  pub later-row-same : laterRow a a ≡ a
-  later-row-same = ap (λ (c : Comparison). handedOn c a a) itself
 
   -- a row becomes another one exactly where the copy's is later
   pub row-changes : (b : List ℕ) → length a ≡ length b → isSplit (compared a b) ≡ false → not (isAlike (compared a (laterRow a b))) ≡ isCopyLater (compared a b)

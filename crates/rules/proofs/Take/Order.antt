@@ -5,10 +5,9 @@ use native.Mathlib.Nat.{le-refl, le-trans, lt-of-le-of-lt}
 use native.Mathlib.Numerals.{lt-of-le-of-ne}
 use native.Mathlib.Omega.{arith}
 use mathlib.Core.Path.{_≡_, ap, sym}
-use mathlib.Core.Logic.{_⊎_, ⊎-elim}
+use mathlib.Core.Logic.{⊎-elim}
 use mathlib.Core.Bool.{true, false, not}
 use borrow.Author.Tests.{leb-true, eqb-true, eqb-false, le-leb, eq-eqb, not-true}
-use Rattle.rules.specs.Loops.{_and_}
 use Rattle.rules.specs.Rows.{atLeast, alike, later}
 use Rattle.rules.proofs.Loops.Logic.{decided, and-left, and-right, and-both}
 use Rattle.rules.proofs.Loops.Every.{every-at, every-all, every-fails}

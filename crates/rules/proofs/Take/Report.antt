@@ -11,7 +11,7 @@ use lib.ListN.{getD}
 use lib.Seq.{sets}
 use Rattle.rules.specs.Loops.{flat, count}
 use Rattle.rules.specs.Numbers.{part}
-use Rattle.rules.specs.Layout.{Head, headOf, headFor, rowLength, frontLength, bodyAt, cellAt, desks, piles}
+use Rattle.rules.specs.Layout.{Head, headOf, rowLength, frontLength, bodyAt, cellAt, desks, piles}
 use Rattle.rules.specs.Rows.{Comparison, isAlike, isCopyLater, compared}
 use Rattle.rules.specs.Take.{rowPart, takeAnswer, takenRow, taken, afterTake, rowChanged, changedRows, takeReport, ReportZero}
 use Rattle.rules.proofs.Loops.Sums.{sum-cong, sum-zero}

@@ -1,8 +1,6 @@
 -- `fetch_numbers` pads the body of the pile that `seek` has found.
 -- Assumes nothing.
-use Prim.Native.Nat.{ℕ}
 use mathlib.Core.Path.{_≡_, sym, _∙_}
-use lib.ListN.{length}
 use Rattle.rules.specs.Layout.{desks}
 use Rattle.rules.specs.Book.{deskAnswer, fetchAnswer}
 use Rattle.rules.proofs.Record.OfBody.{found-start, found-count}

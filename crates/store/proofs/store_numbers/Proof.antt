@@ -1,7 +1,7 @@
 -- `store_numbers` asks the lines of the table in their order, and packs the list over its pile's body.
 -- Assumes nothing.
 use Prim.Native.Nat.{ℕ}
-use mathlib.Core.Path.{_≡_, ap, ap₂, sym, _∙_}
+use mathlib.Core.Path.{_≡_, ap₂, sym, _∙_}
 use Rattle.rules.specs.Pile.{sameOpening}
 use Rattle.rules.specs.Layout.{headOf, desks, bodyAt, bodyView, pileOf}
 use Rattle.rules.specs.Book.{deskAnswer, fetchAnswer, place}

@@ -1,7 +1,7 @@
 -- `account_answer` asks whether the body is there, and then has it judged.
 -- Assumes nothing.
 use native.Mathlib.Omega.{arith}
-use mathlib.Core.Path.{_≡_, refl, ap, _∙_}
+use mathlib.Core.Path.{refl, ap, _∙_}
 use Rattle.rules.specs.Pile.{pileAnswer}
 use Rattle.layout.specs.Inner.{BodyWithin}
 use Rattle.layout.proofs.Sizes.{no-desks, some-desks, size-is}

@@ -1,7 +1,7 @@
 -- `account_of` has the body judged, and reads its numbers where there is no refusal.
 -- Assumes nothing.
 use native.Mathlib.Omega.{arith}
-use mathlib.Core.Path.{_≡_, refl, ap, sym, _∙_}
+use mathlib.Core.Path.{_≡_, ap, sym, _∙_}
 use Prim.Native.Nat.{ℕ}
 use Rattle.rules.specs.Numbers.{number}
 use Rattle.rules.specs.Pile.{Pile, draw, tip}

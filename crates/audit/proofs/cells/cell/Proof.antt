@@ -1,6 +1,5 @@
 -- `cell` reads the number where `cell_at` says that it stands.
 -- Assumes nothing.
-use Prim.Native.Nat.{ℕ, _+_, _≤_, _<_}
 use native.Mathlib.Omega.{arith}
 use mathlib.Core.Path.{ap, _∙_}
 use Rattle.rules.specs.Numbers.{number}

@@ -1,9 +1,8 @@
 -- `body_answer` adds up the shares and the rows, and then goes through the lines of the table.
 -- Assumes nothing.
-use Prim.Native.Nat.{ℕ, _+_, _-_, _*_, _≤_}
+use Prim.Native.Nat.{ℕ, _-_}
 use native.Mathlib.Omega.{arith}
 use mathlib.Core.Path.{_≡_, ap, ap₂, sym, _∙_}
-use lib.ListN.{length}
 use lib.Dec.{leb, eqb}
 use Rattle.rules.specs.Loops.{_and_}
 use Rattle.rules.specs.Numbers.{number}

@@ -1,8 +1,8 @@
 -- `left_of` adds up what a desk's rights are made of: what it had at first, and desk by desk what it got and what it gave.
 -- Assumes nothing.
-use Prim.Native.Nat.{ℕ, zero, suc, _+_, _-_, _*_, _≤_, _<_}
+use Prim.Native.Nat.{ℕ, zero, suc, _+_, _-_, _*_, _≤_}
 use native.Mathlib.Omega.{arith}
-use mathlib.Core.Path.{_≡_, refl, ap, ap₂, sym, _∙_}
+use mathlib.Core.Path.{_≡_, refl, ap, ap₂, _∙_}
 use Rattle.rules.specs.Loops.{sum}
 use Rattle.rules.specs.Pile as pile
 use Rattle.rules.specs.Pile.{Side, Pile, other, sideOf, rights}

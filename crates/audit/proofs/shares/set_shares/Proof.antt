@@ -3,12 +3,10 @@
 use Prim.Native.Nat.{_+_, _-_, _*_, _≤_, _<_}
 use native.Mathlib.Nat.{not-suc-le-zero}
 use native.Mathlib.Omega.{arith}
-use mathlib.Core.Path.{_≡_, refl, ap, ap₂, sym, _∙_}
+use mathlib.Core.Path.{_≡_, refl, ap₂, sym, _∙_}
 use lib.ListN.{length}
 use Rattle.rules.specs.Loops as loops
-use Rattle.rules.specs.Numbers.{number}
 use Rattle.rules.specs.Pile.{sideOf}
-use Rattle.rules.specs.Layout.{cellAt}
 use Rattle.rules.proofs.Loops.Arrays.{sum-next, set-next}
 use Rattle.layout.specs.Inner.{firstBody}
 use Rattle.audit.specs.Inner.{SharesSet}

@@ -1,11 +1,10 @@
 -- `bodies_answer` has the bodies checked where they stand, behind the front.
 -- Assumes nothing.
-use Prim.Native.Nat.{ℕ, _+_, _*_}
-use mathlib.Core.Path.{_≡_, ap, ap₂, _∙_, sym}
+use Prim.Native.Nat.{ℕ}
+use mathlib.Core.Path.{ap, _∙_, sym}
 use lib.ListN.{length}
-use Rattle.rules.specs.Refusals.{first}
 use Rattle.rules.specs.Pile.{pileAnswer}
-use Rattle.rules.specs.Layout.{frontLength, bodyLength, bodyAt, bodyView}
+use Rattle.rules.specs.Layout.{frontLength, bodyView}
 use Rattle.rules.proofs.Loops.Refusals.{orElse-passes, first-cong}
 use Rattle.rules.proofs.File.Positions.{body-start, book-end}
 use Rattle.layout.specs.Positions.{asHead}

@@ -1,6 +1,5 @@
 -- `book_bound` reads the body that was found, which is sound.
 -- Assumes nothing.
-use native.Mathlib.Omega.{arith}
 use mathlib.Core.Path.{_≡_, ap, _∙_}
 use Rattle.rules.specs.Refusals.{value}
 use Rattle.rules.specs.Pile.{draw, tip}

@@ -5,7 +5,6 @@ use borrow.Author.Tests.{lt-leb, le-leb}
 use Rattle.rules.specs.Loops.{between}
 use Rattle.rules.specs.Layout.{sizesInRange}
 use Rattle.rules.proofs.Loops.Logic.{and-left-fails, and-right-fails, and-left-holds, and-both}
-use borrow.Author.Needs.{needs}
 use Rattle.layout.proofs.head.sizes_in_range.Statement.{statement}
 use Rattle.layout.proofs.head.sizes_in_range.Tie as tie
 

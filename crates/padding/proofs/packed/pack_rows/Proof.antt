@@ -2,7 +2,7 @@
 -- Assumes nothing.
 use Prim.Native.Nat.{suc, _+_, _-_, _*_, _≤_}
 use native.Mathlib.Omega.{arith}
-use mathlib.Core.Path.{_≡_, refl}
+use mathlib.Core.Path.{_≡_}
 use lib.ListN.{length}
 use Rattle.rules.specs.Numbers.{encode}
 use Rattle.rules.specs.Layout.{rowLength}

@@ -3,10 +3,9 @@
 use native.Mathlib.Omega.{arith}
 use mathlib.Core.Path.{_≡_, _∙_}
 use lib.ListN.{length}
-use Rattle.rules.specs.Pile.{Side, sideOf}
+use Rattle.rules.specs.Pile.{sideOf}
 use Rattle.rules.specs.Record.{recordAnswer, InMemory}
 use Rattle.pile.specs.View.{asRecord}
-use Rattle.pile.specs.Inner.{PackedAs}
 use Rattle.pile.proofs.Packed.{passed, rights-read, rights-small}
 use Rattle.pile.proofs.Replies.{rights-refused, rights-11, rights-value}
 use borrow.Author.Needs.{needs}

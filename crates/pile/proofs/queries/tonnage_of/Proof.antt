@@ -5,7 +5,6 @@ use mathlib.Core.Path.{_≡_, _∙_}
 use lib.ListN.{length}
 use Rattle.rules.specs.Record.{recordAnswer, InMemory}
 use Rattle.pile.specs.View.{asRecord}
-use Rattle.pile.specs.Inner.{PackedAs}
 use Rattle.pile.proofs.Packed.{passed, tonnage-read, tonnage-small}
 use Rattle.pile.proofs.Replies.{tonnage-refused, tonnage-value}
 use borrow.Author.Needs.{needs}

@@ -1,7 +1,6 @@
 -- `same_opening` compares floor, top and the draw shares, which stand side by side, and then the tip shares.
 -- Assumes nothing.
 use Prim.Native.Nat.{ℕ, _+_, _*_}
-use native.Mathlib.Omega.{arith}
 use mathlib.Core.Path.{_≡_, ap, sym, _∙_}
 use Rattle.rules.specs.Loops.{every}
 use Rattle.rules.proofs.Loops.Logic.{holds, fails, and-left-fails, and-left-holds}

@@ -1,6 +1,6 @@
 -- `pack` writes from the last byte to the first: what it has not written yet, written over what it has, is the whole number.
 -- Assumes nothing.
-use Prim.Native.Nat.{_-_, _≤_}
+use Prim.Native.Nat.{_≤_}
 use native.Mathlib.Omega.{arith}
 use mathlib.Core.Path.{_≡_, refl, _∙_}
 use lib.ListN.{length}
