@@ -7,7 +7,6 @@ mod readable;
 use audit::tonnage_in;
 use find::find;
 use layout::contents::position;
-use layout::head::body_at;
 use layout::head::head_of;
 use layout::lengths::body_length;
 use pile::Amount;
@@ -70,7 +69,7 @@ pub fn seek(book: &[u8], desk: u8, number: u16) -> Sought
     Sought {
         answer: 0,
         desks: head.desks,
-        start: body_at(head, found.place) as u32,
+        start: position(book, found.place),
     }
 }
 

@@ -1,6 +1,6 @@
 -- What a query for a bound replies, from what the query for the rights that keep it told, and from what a book was found to have.
 -- Assumes nothing.
-use Prim.Native.Nat.{ℕ, _+_, _≤_, _<_}
+use Prim.Native.Nat.{ℕ, _+_, _-_, _≤_, _<_}
 use native.Mathlib.Decide.{ℕ-discrete}
 use native.Mathlib.Omega.{arith}
 use mathlib.Core.Path.{_≡_, ap, sym, _∙_}
@@ -9,16 +9,16 @@ use mathlib.Core.List.{List}
 use lib.ListN.{length}
 use borrow.Author.Tests.{ltb-true}
 use Rattle.rules.specs.Refusals.{refused, value, reply}
-use Rattle.rules.specs.Numbers.{number}
+use Rattle.rules.specs.Numbers.{number, part}
 use Rattle.rules.specs.Pile.{Side, Pile, rights, topLimit}
-use Rattle.rules.specs.Layout.{earnedColumn, cellAt, bodyView, desks}
+use Rattle.rules.specs.Layout.{rowLength, earnedColumn, cellAt, bodyView, desks}
 use Rattle.rules.specs.Record.{Record, recordView, recordAnswer, recordDeskAnswer, recordRightsReply}
 use Rattle.rules.specs.Bounds.{bound, boundReply, recordBoundReply}
 use Rattle.rules.proofs.Loops.Refusals.{orElse-first, orElse-rest, when-not-done, reply-refused, reply-value}
 use Rattle.rules.proofs.Record.Facts.{record-facts}
 use Rattle.rules.proofs.Pile.Bounds.{rights-room}
-use Rattle.rules.proofs.File.Body.{earned-below}
-use Rattle.layout.proofs.Views.{cell-within}
+use Rattle.rules.proofs.Bytes.Numbers.{number-part}
+use Rattle.rules.proofs.File.Body.{row-within, earned-below}
 use Rattle.audit.specs.Audits.{rightsIn}
 use Rattle.book.specs.Inner.{SoughtBody}
 use Rattle.book.proofs.Bodies.{Told, pile-sound, rights-read, rights-small, sought-reply}
@@ -65,16 +65,16 @@ module _ (r : Record) (s : Side) (i : ℕ) where
         ap value (is ∙ ap (kept s (r .floor) (r .top)) (rights-told .1) ∙ kept-bound (r .n) (recordView r) s i)
         ∙ reply-value _ _ (rights-told .0)
 
--- a number of the opening of a body at a position, read by its column
-pub opening-read : (n at : ℕ) (b : List ℕ) (s : Side) {x column from : ℕ} → column ≡ earnedColumn s → from ≡ cellAt n 0 column → x ≡ number 4 b (at + from)
-    → x ≡ number 4 b (at + cellAt n 0 (earnedColumn s))
-opening-read n at b s k≡ from≡ is = is ∙ ap (λ (k : ℕ). number 4 b (at + k)) (from≡ ∙ ap (cellAt n 0) k≡)
+-- the row of the opening of a body lies within the book, and its numbers are read by their column
+pub opening-within : (i : ℕ) (b : List ℕ) {n at size : ℕ} → SoughtBody i b n at → size ≡ rowLength n → at + size ≤ length b
+opening-within i b {n} {at} sought size≡ = rw (size≡, sought .count) (omega (arith, row-within (desks b) 0 (omega arith), sought .sound .body .within))
 
-pub opening-within : (i : ℕ) (b : List ℕ) {n at : ℕ} → SoughtBody i b n at → (s : Side) {column from : ℕ} → column ≡ earnedColumn s → from ≡ cellAt n 0 column
-    → at + from ≤ length b
-opening-within i b {n} {at} sought s k≡ from≡ =
-    rw (from≡, k≡, sought .count)
-    (omega (arith, cell-within (sought .sound .body) {row = 0} {column = earnedColumn s} (omega arith) (earned-below (desks b) s)))
+pub opening-read : (n at : ℕ) (b : List ℕ) (s : Side) {x size column from : ℕ} → size ≡ rowLength n → column ≡ earnedColumn s → from ≡ cellAt n 0 column
+    → x ≡ number 4 (part at (at + size - at) b) from → x ≡ number 4 b (at + cellAt n 0 (earnedColumn s))
+unfolding cellAt rowLength
+opening-read n at b s {x} {size} {column} {from} size≡ k≡ from≡ is =
+    let below = earned-below n s in
+    is ∙ number-part 4 b at (at + size - at) from (omega (arith, size≡, from≡, k≡, below)) ∙ ap (λ (k : ℕ). number 4 b (at + k)) (from≡ ∙ ap (cellAt n 0) k≡)
 
 pub rights-fit : (i : ℕ) (b : List ℕ) {n at : ℕ} → SoughtBody i b n at → (s : Side) {x : ℕ} → x ≡ rightsIn s n at b i → x ≤ topLimit
 rights-fit i b {n} {at} sought s are = rights-small i b (sought .sound) s (are ∙ ap (λ (m : ℕ). rightsIn s m at b i) (sought .count))

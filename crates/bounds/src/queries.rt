@@ -4,6 +4,7 @@ use audit::rights_in;
 use book::Sought;
 use layout::cells::cell_at;
 use layout::cells::earned_column;
+use layout::lengths::row_length;
 use number::get4;
 use pile::Amount;
 use pile::Pile;
@@ -51,7 +52,9 @@ pub(crate) fn book_bound(book: &[u8], side: u8, desk: u8, found: Sought) -> Amou
     let n = found.desks;
     let start = found.start as usize;
     let rights = rights_in(book, start, n, side, desk) as u32;
-    let floor = get4(book, start + cell_at(n, 0, earned_column(0)));
-    let top = get4(book, start + cell_at(n, 0, earned_column(1)));
+    // Of a part that is known to be there a number is read without a test.
+    let opening = &book[start..start + row_length(n)];
+    let floor = get4(opening, cell_at(n, 0, earned_column(0)));
+    let top = get4(opening, cell_at(n, 0, earned_column(1)));
     Amount::Tonnes(bound_of(side, floor, top, rights))
 }

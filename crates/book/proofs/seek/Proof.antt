@@ -1,13 +1,12 @@
--- `seek` says where the body of the pile that `find` has found starts.
+-- `seek` says where the body of the pile that `find` has found starts: at its contents position.
 -- Assumes nothing.
 use Prim.Native.Nat.{ℕ}
-use native.Mathlib.Omega.{arith}
 use mathlib.Core.Path.{_≡_, ap, _∙_}
 use mathlib.Core.List.{List}
 use Rattle.rules.specs.Layout.{Head, headOf, bodyAt}
 use Rattle.rules.proofs.File.Readable.{BookFacts, book-facts}
-use Rattle.layout.specs.Positions.{asHead, bodyPosition}
-use Rattle.layout.proofs.Positions.{head-there, position-is, position-most}
+use Rattle.layout.specs.Positions.{asHead}
+use Rattle.layout.proofs.Positions.{head-there}
 use Rattle.book.proofs.Replies.{HasPlace, has-place, start-nowhere, of-no-desks, start-at, count-at}
 use borrow.Author.Needs.{needs}
 use Rattle.book.proofs.seek.Statement.{statement}
@@ -26,12 +25,8 @@ facts c = book-facts _ (placed c .readable)
 head-is : (c : tie.After-head-of) → asHead (c .head-of .result) ≡ headOf (bytes (c .before))
 head-is c = c .head-of .ensures ∙ head-there _ (facts (c .before) .long)
 
-starts : (c : tie.After-body-at) → let one = c .before .before in c .body-at .result ≡ bodyAt (headOf (bytes one)) (one .before .find .result .place)
-starts c =
-    let one = c .before .before in
-    let sizes = facts one .sizes in
-    c .body-at .ensures ∙ ap (λ (h : Head). bodyPosition h (one .before .find .result .place)) (head-is (c .before))
-    ∙ position-is (headOf (bytes one)) _ (sizes .desks-least) (sizes .desks-most)
+starts : (c : tie.After-position) → let one = c .before .before in c .position .result ≡ bodyAt (headOf (bytes one)) (one .before .find .result .place)
+starts c = let one = c .before .before in c .position .ensures ∙ facts one .placed _ (placed one .below)
 
 find-requires : tie.Need-find-requires
 find-requires c κs = search needs
@@ -44,13 +39,8 @@ returns c =
 head-of-requires : tie.Need-head-of-requires
 head-of-requires c κs = search needs
 
-body-at-requires : tie.Need-body-at-requires
-body-at-requires c κs = search needs
-
-cast-t9 : tie.Need-cast-t9
-cast-t9 c =
-    let h = c .before .head-of .result in
-    omega (arith, c .body-at .ensures, position-most (asHead h) (c .before .before .before .find .result .place) (omega arith) (omega arith))
+position-requires : tie.Need-position-requires
+position-requires c κs = search needs
 
 returns-2 : tie.Need-returns-2
 returns-2 c =
@@ -61,4 +51,4 @@ returns-2 c =
 
 pub seek-spec : {M : Type 1} → statement M
 seek-spec =
-    tie.close (tie.spec find-requires returns head-of-requires body-at-requires cast-t9 returns-2)
+    tie.close (tie.spec find-requires returns head-of-requires position-requires returns-2)

@@ -22,8 +22,11 @@ sought c = start c .pre (c .if1 .left)
 abbrev floor-read : tie.After-get42 → tie.After-get4
 floor-read c = c .before .before .before
 
+abbrev part-made : tie.After-get42 → tie.After-opening
+part-made c = floor-read c .before .before .before
+
 abbrev rights-told : tie.After-get42 → tie.After-rights-in
-rights-told c = floor-read c .before .before .before
+rights-told c = part-made c .before .before
 
 abbrev args : (c : tie.After-get42) → tie.Start
 args c = start (rights-told c .before .before)
@@ -31,10 +34,10 @@ args c = start (rights-told c .before .before)
 floor-told : (c : tie.After-get42) → let a = args c .args in floor-read c .get4 .result ≡ bodyView (a .found .desks) (a .book .now) (a .found .start) .floor
 floor-told c =
     let at = floor-read c .before in
-    opening-read _ _ _ draw (at .before .earned-column .ensures) (at .cell-at .ensures) (floor-read c .get4 .ensures)
+    opening-read _ _ _ draw (part-made c .before .row-length .ensures) (at .before .earned-column .ensures) (at .cell-at .ensures) (floor-read c .get4 .ensures)
 
 top-told : (c : tie.After-get42) → let a = args c .args in c .get42 .result ≡ bodyView (a .found .desks) (a .book .now) (a .found .start) .top
-top-told c = opening-read _ _ _ tip (c .before .before .earned-column2 .ensures) (c .before .cell-at2 .ensures) (c .get42 .ensures)
+top-told c = opening-read _ _ _ tip (part-made c .before .row-length .ensures) (c .before .before .earned-column2 .ensures) (c .before .cell-at2 .ensures) (c .get42 .ensures)
 
 returns : tie.Need-returns
 returns c = reply-refused _ _ (c .if1 .taken)
@@ -48,14 +51,26 @@ rights-in-requires c κs = search needs
 cast-rights : tie.Need-cast-rights
 cast-rights c = search (needs, rights-fit _ _ (sought (c .before .before)) _ (c .rights-in .ensures))
 
+row-length-requires : tie.Need-row-length-requires
+row-length-requires c κs = search needs
+
+add-opening : tie.Need-add-opening
+add-opening c = search (needs, opening-within _ _ (sought (c .before .before .before)) (c .row-length .ensures))
+
+sub-opening : tie.Need-sub-opening
+sub-opening c = search needs
+
+part-opening-start : tie.Need-part-opening-start
+part-opening-start c = search needs
+
+part-opening-end : tie.Need-part-opening-end
+part-opening-end c = search (needs, opening-within _ _ (sought (c .before .before .before)) (c .row-length .ensures))
+
 earned-column-requires : tie.Need-earned-column-requires
 earned-column-requires c κs = search needs
 
 cell-at-requires : tie.Need-cell-at-requires
 cell-at-requires c κs = search needs
-
-add-get4 : tie.Need-add-get4
-add-get4 c = search (needs, opening-within _ _ (sought (c .before .before .before .before)) draw (c .before .earned-column .ensures) (c .cell-at .ensures))
 
 get4-requires : tie.Need-get4-requires
 get4-requires c κs = search needs
@@ -65,11 +80,6 @@ earned-column-requires-2 c κs = search needs
 
 cell-at-requires-2 : tie.Need-cell-at-requires-2
 cell-at-requires-2 c κs = search needs
-
-add-get4-2 : tie.Need-add-get4-2
-add-get4-2 c =
-    let one = c .before .before .before .before .before .before .before in
-    search (needs, opening-within _ _ (sought one) tip (c .before .earned-column2 .ensures) (c .cell-at2 .ensures))
 
 get4-requires-2 : tie.Need-get4-requires-2
 get4-requires-2 c κs = search needs
@@ -94,13 +104,16 @@ book-bound-spec =
     cast-start
     rights-in-requires
     cast-rights
+    row-length-requires
+    add-opening
+    sub-opening
+    part-opening-start
+    part-opening-end
     earned-column-requires
     cell-at-requires
-    add-get4
     get4-requires
     earned-column-requires-2
     cell-at-requires-2
-    add-get4-2
     get4-requires-2
     bound-of-requires
     returns-2)
