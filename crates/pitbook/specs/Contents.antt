@@ -1,11 +1,11 @@
 -- The contents of a book, filled into two lent lists: the pile numbers, and the positions of their bodies.
 -- Assumes nothing.
-use Prim.Native.Nat.{ℕ, min, _≤_}
+use Prim.Native.Nat.{ℕ, min}
 use mathlib.Core.List.{List, _++_}
 use lib.ListN.{length, drop}
 use Rattle.rules.specs.Loops.{list}
 use Rattle.rules.specs.Refusals.{done}
-use Rattle.rules.specs.Layout.{pileLimit, piles, pileNumber, position}
+use Rattle.rules.specs.Layout.{piles, pileNumber, position}
 use Rattle.rules.specs.Book.{contentsAnswer}
 
 -- The shorter list decides whether there is room.
@@ -22,9 +22,3 @@ afterNumbers b numbers positions = done (listsAnswer b numbers positions) (fille
 
 unfoldable pub afterPositions : List ℕ → List ℕ → List ℕ → List ℕ
 afterPositions b numbers positions = done (listsAnswer b numbers positions) (filled (piles b) (position b) positions) positions
-
--- both lists have room for p entries
-pub record RoomFor (p : ℕ) (numbers positions : List ℕ) : Type 0 where
-  pub piles-most : p ≤ pileLimit
-  pub of-numbers : p ≤ length numbers
-  pub of-positions : p ≤ length positions

@@ -5,7 +5,8 @@ use layout::contents::position;
 use layout::head::head_of;
 ghost use mathlib.Core.Path.{_≡_};
 ghost use Rattle.rules.specs.Layout.{pileNumber, position};
-ghost use Rattle.pitbook.specs.Contents.{listsAnswer, filled, afterNumbers, afterPositions, RoomFor};
+ghost use Rattle.pitbook.specs.Contents.{listsAnswer, filled, afterNumbers, afterPositions};
+ghost use Rattle.pitbook.specs.Inner.{RoomFor};
 
 // The first p entries of the contents: their pile numbers into one list, their positions into the other.
 fn put_entries(book: &[u8], p: u8, numbers: &mut [u32], positions: &mut [u32])
