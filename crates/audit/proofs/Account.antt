@@ -10,29 +10,29 @@ use lib.ListN.{get_or}
 use lib.Dec.{leb}
 use borrow.Author.Tests.{le-leb, lt-leb}
 use Rattle.rules.specs.Loops.{◌and◌, every}
-use Rattle.rules.specs.Pile.{Side, draw, tip, other, bothSides, Pile, credit, debit}
-use Rattle.rules.proofs.Loops.Logic.{and-true, and-right-fails}
+use Rattle.rules.specs.Pile.{Side, draw, tip, other, both_sides, Pile, credit, debit}
+use Rattle.rules.proofs.Loops.Logic.{and_true, and_right_fails}
 use Rattle.audit.specs.Inner.{SideRead}
 
 module _ {p : Pile} {s : Side} {n : ℕ} {totals made : List ℕ} (read : SideRead p s n n totals made) (i : ℕ) (i<n : i < n) where
-  pub credit-at : {x : ℕ} → x ≡ p.earned s i → get_or totals i 0 + x ≡ credit n p s i
+  pub credit_at : {x : ℕ} → x ≡ p.earned s i → get_or totals i 0 + x ≡ credit n p s i
   unfolding credit
-  credit-at e = omega (arith, read.received i i<n)
+  credit_at e = omega (arith, read.received i i<n)
 
-  pub debit-at : {x : ℕ} → x ≡ p.earned (other s) i → get_or made i 0 + x ≡ debit n p s i
+  pub debit_at : {x : ℕ} → x ≡ p.earned (other s) i → get_or made i 0 + x ≡ debit n p s i
   unfolding debit
-  debit-at e = ap₂ ◌+◌ (read.given i i<n) e
+  debit_at e = ap₂ ◌+◌ (read.given i i<n) e
 
 -- is each debit of a desk within its credit?
 abbrev pub covers : ℕ → Pile → ℕ → Bool
-covers n p i = bothSides (λ s. leb (debit n p s i) (credit n p s i))
+covers n p i = both_sides (λ s. leb (debit n p s i) (credit n p s i))
 
 -- a mark that is cleared where a debit is above a credit, and is kept otherwise
 pub cleared : (mark : Bool) {after : Bool} {d c : ℕ} → c < d → after ≡ false → after ≡ mark and leb d c
-cleared mark l e = e ∙ sym (and-right-fails mark (lt-leb _ _ l))
+cleared mark l e = e ∙ sym (and_right_fails mark (lt-leb _ _ l))
 
 pub kept : {mark after : Bool} {d c : ℕ} → d ≤ c → after ≡ mark → after ≡ mark and leb d c
-kept {mark} l e = e ∙ sym (ap (λ (t : Bool). mark and t) (le-leb _ _ l) ∙ and-true mark)
+kept {mark} l e = e ∙ sym (ap (λ (t : Bool). mark and t) (le-leb _ _ l) ∙ and_true mark)
 
 and_assoc : (a b c : Bool) → (a and b) and c ≡ a and b and c
 unfolding ◌and◌
@@ -40,7 +40,7 @@ and_assoc true b c = refl
 and_assoc false b c = refl
 
 -- one desk more, its two sides tested one after the other
-pub covered_next : (t : ℕ → Side → Bool) (i : ℕ) {mark one two : Bool} → mark ≡ every i (λ k. bothSides (t k)) → one ≡ mark and t i draw
-    → two ≡ one and t i tip → two ≡ every (i + 1) (λ k. bothSides (t k))
-unfolding every bothSides
+pub covered_next : (t : ℕ → Side → Bool) (i : ℕ) {mark one two : Bool} → mark ≡ every i (λ k. both_sides (t k)) → one ≡ mark and t i draw
+    → two ≡ one and t i tip → two ≡ every (i + 1) (λ k. both_sides (t k))
+unfolding every both_sides
 covered_next t i m o w = rw (w, o, m, add-one i) (and_assoc _ _ _)

@@ -8,37 +8,37 @@ use lib.ListN.{length}
 use borrow.Author.Tests.{lt-ltb, le-ltb}
 use Rattle.rules.specs.Loops.{◌and◌}
 use Rattle.rules.specs.Pile.{Side, Pile, rights, tonnage}
-use Rattle.rules.specs.Layout.{bodyView}
-use Rattle.rules.proofs.Loops.Logic.{and-right-fails}
-use Rattle.layout.specs.Inner.{firstBody, rest}
-use Rattle.layout.proofs.Views.{view-from}
-use Rattle.audit.specs.Audits.{bodyThere, rightsIn, tonnageIn}
+use Rattle.rules.specs.Layout.{body_view}
+use Rattle.rules.proofs.Loops.Logic.{and_right_fails}
+use Rattle.layout.specs.Inner.{first_body, rest}
+use Rattle.layout.proofs.Views.{view_from}
+use Rattle.audit.specs.Audits.{body_there, rights_in, tonnage_in}
 
 module _ (s : Side) (n at : ℕ) (b : List ℕ) (i : ℕ) where
-  pub no_body : bodyThere n at (length b) ≡ false → 0 ≡ rightsIn s n at b i
-  unfolding rightsIn ◌and◌
+  pub no_body : body_there n at (length b) ≡ false → 0 ≡ rights_in s n at b i
+  unfolding rights_in ◌and◌
   no_body e = rw e
 
-  pub no-desk : n ≤ i → 0 ≡ rightsIn s n at b i
-  unfolding rightsIn
-  no-desk l = rw (and-right-fails (bodyThere n at (length b)) (le-ltb i n l))
+  pub no_desk : n ≤ i → 0 ≡ rights_in s n at b i
+  unfolding rights_in
+  no_desk l = rw (and_right_fails (body_there n at (length b)) (le-ltb i n l))
 
-  pub desk-there : bodyThere n at (length b) ≡ true → i < n → rights n (bodyView n b at) s i ≡ rightsIn s n at b i
-  unfolding rightsIn ◌and◌
-  desk-there e l = rw (e, lt-ltb i n l)
+  pub desk_there : body_there n at (length b) ≡ true → i < n → rights n (body_view n b at) s i ≡ rights_in s n at b i
+  unfolding rights_in ◌and◌
+  desk_there e l = rw (e, lt-ltb i n l)
 
   -- as they are read
-  pub desk-read : bodyThere n at (length b) ≡ true → i < n → rights n (firstBody n (rest at b)) s i ≡ rightsIn s n at b i
-  desk-read e l = ap (λ (p : Pile). rights n p s i) (view-from n b at) ∙ desk-there e l
+  pub desk_read : body_there n at (length b) ≡ true → i < n → rights n (first_body n (rest at b)) s i ≡ rights_in s n at b i
+  desk_read e l = ap (λ (p : Pile). rights n p s i) (view_from n b at) ∙ desk_there e l
 
 module _ (n at : ℕ) (b : List ℕ) where
-  pub no-tonnage : bodyThere n at (length b) ≡ false → 0 ≡ tonnageIn n at b
-  unfolding tonnageIn
-  no-tonnage e = rw e
+  pub no_tonnage : body_there n at (length b) ≡ false → 0 ≡ tonnage_in n at b
+  unfolding tonnage_in
+  no_tonnage e = rw e
 
-  pub tonnage-there : bodyThere n at (length b) ≡ true → tonnage n (bodyView n b at) ≡ tonnageIn n at b
-  unfolding tonnageIn
-  tonnage-there e = rw e
+  pub tonnage_there : body_there n at (length b) ≡ true → tonnage n (body_view n b at) ≡ tonnage_in n at b
+  unfolding tonnage_in
+  tonnage_there e = rw e
 
-  pub tonnage-read : bodyThere n at (length b) ≡ true → tonnage n (firstBody n (rest at b)) ≡ tonnageIn n at b
-  tonnage-read e = ap (tonnage n) (view-from n b at) ∙ tonnage-there e
+  pub tonnage_read : body_there n at (length b) ≡ true → tonnage n (first_body n (rest at b)) ≡ tonnage_in n at b
+  tonnage_read e = ap (tonnage n) (view_from n b at) ∙ tonnage_there e

@@ -9,86 +9,86 @@ use mathlib.Core.List.{List}
 use lib.ListN.{length, replicate}
 use borrow.Author.Tests.{lt-ltb, le-ltb, le-leb, ltb-false}
 use Rattle.rules.specs.Loops.{between, list}
-use Rattle.rules.specs.Refusals.{◌when◌, ◌orElse◌}
-use Rattle.rules.specs.Pile.{Side, Pile, rights, tonnage, pileAnswer, topLimit}
-use Rattle.rules.specs.Layout.{deskLimit, bodyLength, bodyView}
+use Rattle.rules.specs.Refusals.{◌when◌, ◌or_else◌}
+use Rattle.rules.specs.Pile.{Side, Pile, rights, tonnage, pile_answer, top_limit}
+use Rattle.rules.specs.Layout.{desk_limit, body_length, body_view}
 use Rattle.rules.specs.Record.{padded}
-use Rattle.rules.proofs.Loops.Logic.{in-range, and_both}
-use Rattle.rules.proofs.Loops.Refusals.{when-done, when-not-done, orElse-first, orElse-rest, when-accepted, when-refused}
+use Rattle.rules.proofs.Loops.Logic.{in_range, and_both}
+use Rattle.rules.proofs.Loops.Refusals.{when_done, when_not_done, or_else_first, or_else_rest, when_accepted, when_refused}
 use Rattle.rules.proofs.Pile.Facts.{PileFacts, facts}
-use Rattle.rules.proofs.Pile.Tonnage.{tonnage-within, rights-most}
-use Rattle.rules.proofs.Record.Padded.{padded-cong}
+use Rattle.rules.proofs.Pile.Tonnage.{tonnage_within, rights_most}
+use Rattle.rules.proofs.Record.Padded.{padded_cong}
 use Rattle.layout.specs.Inner.{BodyWithin}
-use Rattle.audit.specs.Audits.{bodyThere, rightsIn, tonnageIn, accountAnswer, accountNumber, accountRights}
-use Rattle.audit.proofs.There.{there-within}
-use Rattle.audit.proofs.DeskRights.{desk-there, tonnage-there}
+use Rattle.audit.specs.Audits.{body_there, rights_in, tonnage_in, account_answer, account_number, account_rights}
+use Rattle.audit.proofs.There.{there_within}
+use Rattle.audit.proofs.DeskRights.{desk_there, tonnage_there}
 
 -- the lines of the table
 module _ (n at : ℕ) (b : List ℕ) where
-  pub account-2 : between 1 deskLimit n ≡ false → 2 ≡ accountAnswer n at b
-  unfolding accountAnswer ◌when◌ ◌orElse◌
-  account-2 e = rw e
+  pub account_2 : between 1 desk_limit n ≡ false → 2 ≡ account_answer n at b
+  unfolding account_answer ◌when◌ ◌or_else◌
+  account_2 e = rw e
 
-  module _ (desks : (1 ≤ n) × (n ≤ deskLimit)) where
-    ranged : between 1 deskLimit n ≡ true
+  module _ (desks : (1 ≤ n) × (n ≤ desk_limit)) where
+    ranged : between 1 desk_limit n ≡ true
     unfolding between
     ranged = and_both (le-leb _ _ desks.0) (le-leb _ _ desks.1)
 
-    pub account-3 : length b < at + bodyLength n → 3 ≡ accountAnswer n at b
-    unfolding accountAnswer ◌when◌ ◌orElse◌
-    account-3 short = rw (ranged, lt-ltb _ _ short)
+    pub account_3 : length b < at + body_length n → 3 ≡ account_answer n at b
+    unfolding account_answer ◌when◌ ◌or_else◌
+    account_3 short = rw (ranged, lt-ltb _ _ short)
 
-    pub account-judged : at + bodyLength n ≤ length b → pileAnswer n (bodyView n b at) ≡ accountAnswer n at b
-    unfolding accountAnswer ◌when◌ ◌orElse◌
-    account-judged there = rw (ranged, le-ltb _ _ there)
+    pub account_judged : at + body_length n ≤ length b → pile_answer n (body_view n b at) ≡ account_answer n at b
+    unfolding account_answer ◌when◌ ◌or_else◌
+    account_judged there = rw (ranged, le-ltb _ _ there)
 
   -- beside a refusal all is 0
-  module _ {m : ℕ} (is : m ≡ accountAnswer n at b) (d : m ≢ 0) where
-    pub no_number : (f : Pile → ℕ) → 0 ≡ accountNumber f n at b
-    unfolding accountNumber
-    no_number f = sym (when-refused _ _ _ (λ z. d (is ∙ z)))
+  module _ {m : ℕ} (is : m ≡ account_answer n at b) (d : m ≢ 0) where
+    pub no_number : (f : Pile → ℕ) → 0 ≡ account_number f n at b
+    unfolding account_number
+    no_number f = sym (when_refused _ _ _ (λ z. d (is ∙ z)))
 
-    pub no-rights : (s : Side) → replicate deskLimit 0 ≡ accountRights s n at b
-    unfolding accountRights
-    no-rights s = sym (when-refused _ _ _ (λ z. d (is ∙ z)))
+    pub no_rights : (s : Side) → replicate desk_limit 0 ≡ account_rights s n at b
+    unfolding account_rights
+    no_rights s = sym (when_refused _ _ _ (λ z. d (is ∙ z)))
 
   -- where there is none
-  module _ (passed : accountAnswer n at b ≡ 0) where
-    desks : (1 ≤ n) × (n ≤ deskLimit)
-    unfolding accountAnswer
-    desks = in-range _ _ _ (when-not-done _ _ (orElse-first _ _ passed))
+  module _ (passed : account_answer n at b ≡ 0) where
+    desks : (1 ≤ n) × (n ≤ desk_limit)
+    unfolding account_answer
+    desks = in_range _ _ _ (when_not_done _ _ (or_else_first _ _ passed))
 
-    pub few-desks : n ≤ deskLimit
-    few-desks = desks.1
+    pub few_desks : n ≤ desk_limit
+    few_desks = desks.1
 
-    there : bodyThere n at (length b) ≡ true
-    unfolding accountAnswer bodyThere between
+    there : body_there n at (length b) ≡ true
+    unfolding account_answer body_there between
     there =
         and_both (and_both (le-leb _ _ desks.0) (le-leb _ _ desks.1))
-        (le-leb (at + bodyLength n) (length b) (ltb-false _ _ (when-done _ _ (orElse-first _ _ (orElse-rest _ _ passed)))))
+        (le-leb (at + body_length n) (length b) (ltb-false _ _ (when_done _ _ (or_else_first _ _ (or_else_rest _ _ passed)))))
 
-    pub body-there : BodyWithin n at b
-    body-there = there-within there
+    pub body_there_lem : BodyWithin n at b
+    body_there_lem = there_within there
 
-    pub lawful : PileFacts n (bodyView n b at)
-    unfolding accountAnswer
-    lawful = facts n (bodyView n b at) (orElse-rest _ _ (orElse-rest _ _ passed))
+    pub lawful : PileFacts n (body_view n b at)
+    unfolding account_answer
+    lawful = facts n (body_view n b at) (or_else_rest _ _ (or_else_rest _ _ passed))
 
-    pub number_is : (f : Pile → ℕ) → f (bodyView n b at) ≡ accountNumber f n at b
-    unfolding accountNumber
-    number_is f = sym (when-accepted _ _ _ passed)
+    pub number_is : (f : Pile → ℕ) → f (body_view n b at) ≡ account_number f n at b
+    unfolding account_number
+    number_is f = sym (when_accepted _ _ _ passed)
 
-    pub tonnage-is : tonnageIn n at b ≡ accountNumber (tonnage n) n at b
-    tonnage-is = sym (tonnage-there n at b there) ∙ number_is (tonnage n)
+    pub tonnage_is : tonnage_in n at b ≡ account_number (tonnage n) n at b
+    tonnage_is = sym (tonnage_there n at b there) ∙ number_is (tonnage n)
 
-    pub tonnage-small : tonnageIn n at b ≤ topLimit
-    tonnage-small = rw (sym (tonnage-there n at b there)) (omega (arith, (tonnage-within n (bodyView n b at) lawful).1, lawful.opening.top-limit))
+    pub tonnage_small : tonnage_in n at b ≤ top_limit
+    tonnage_small = rw (sym (tonnage_there n at b there)) (omega (arith, (tonnage_within n (body_view n b at) lawful).1, lawful.opening.top_limit_lem))
 
-    pub rights-small : (s : Side) (i : ℕ) → i < n → rightsIn s n at b i ≤ topLimit
-    rights-small s i l = rw (sym (desk-there s n at b i there l)) (rights-most n (bodyView n b at) lawful s i l)
+    pub rights_small : (s : Side) (i : ℕ) → i < n → rights_in s n at b i ≤ top_limit
+    rights_small s i l = rw (sym (desk_there s n at b i there l)) (rights_most n (body_view n b at) lawful s i l)
 
-    pub rights-are : (s : Side) → list deskLimit (padded n (rightsIn s n at b)) ≡ accountRights s n at b
-    unfolding accountRights
-    rights-are s =
-        padded-cong deskLimit n (rightsIn s n at b) (rights n (bodyView n b at) s) (λ i l. sym (desk-there s n at b i there l))
-        ∙ sym (when-accepted _ _ _ passed)
+    pub rights_are : (s : Side) → list desk_limit (padded n (rights_in s n at b)) ≡ account_rights s n at b
+    unfolding account_rights
+    rights_are s =
+        padded_cong desk_limit n (rights_in s n at b) (rights n (body_view n b at) s) (λ i l. sym (desk_there s n at b i there l))
+        ∙ sym (when_accepted _ _ _ passed)

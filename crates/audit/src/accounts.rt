@@ -1,10 +1,10 @@
 // The account of one body where it stands: its own refusal, and where there is none its floor and top, its tonnage and all desks' rights.
 ghost use Rattle.std.specs.Prelude.{◌≡◌, ℕ, ◌≤◌, ◌<◌};
 ghost use Rattle.rules.specs.Loops.{list};
-ghost use Rattle.rules.specs.Pile.{draw, tip, side_of, topLimit, tonnage};
-ghost use Rattle.rules.specs.Layout.{deskLimit};
+ghost use Rattle.rules.specs.Pile.{draw, tip, side_of, top_limit, tonnage};
+ghost use Rattle.rules.specs.Layout.{desk_limit};
 ghost use Rattle.rules.specs.Record.{padded};
-ghost use Rattle.audit.specs.Audits.{rightsIn, accountAnswer, accountNumber, accountRights};
+ghost use Rattle.audit.specs.Audits.{rights_in, account_answer, account_number, account_rights};
 
 use crate::cells::cell;
 use crate::judge::body_answer;
@@ -26,7 +26,7 @@ pub struct Account {
 
 // 2 for n, 3 where no body is there, then 5, 6 or 7, or 0.
 fn account_answer(bytes: &[u8], at: usize, n: u8) -> u8
-    ensures { result ≡ accountAnswer n at bytes.now }
+    ensures { result ≡ account_answer n at bytes.now }
 {
     let size = body_length(n);
     if size == 0 {
@@ -54,8 +54,8 @@ fn account_answer(bytes: &[u8], at: usize, n: u8) -> u8
 
 // The rights of a side of n desks, 0 for draw, any other for tip; 0 past n.
 fn side_rights(bytes: &[u8], at: usize, n: u8, side: u8) -> [u32; DESKS]
-    requires { (n ≤ deskLimit) × ((i : ℕ) → i < n → rightsIn (side_of side) n at bytes.now i ≤ topLimit) }
-    ensures { result ≡ list deskLimit (padded n (rightsIn (side_of side) n at bytes.now)) }
+    requires { (n ≤ desk_limit) × ((i : ℕ) → i < n → rights_in (side_of side) n at bytes.now i ≤ top_limit) }
+    ensures { result ≡ list desk_limit (padded n (rights_in (side_of side) n at bytes.now)) }
 {
     let mut rights = [0u32; DESKS];
     let mut i: u8 = 0;
@@ -68,12 +68,12 @@ fn side_rights(bytes: &[u8], at: usize, n: u8, side: u8) -> [u32; DESKS]
 
 // The account of the body of n desks at a position; refused with 2 for n, 3 where no body is there, then 5, 6 or 7.
 pub fn account_of(bytes: &[u8], at: usize, n: u8) -> Account
-    ensures answer { result.answer ≡ accountAnswer n at bytes.now }
-    ensures floor { result.floor ≡ accountNumber (λ p. p.floor) n at bytes.now }
-    ensures top { result.top ≡ accountNumber (λ p. p.top) n at bytes.now }
-    ensures tonnage { result.tonnage ≡ accountNumber (tonnage n) n at bytes.now }
-    ensures draw { result.draw ≡ accountRights draw n at bytes.now }
-    ensures tip { result.tip ≡ accountRights tip n at bytes.now }
+    ensures answer { result.answer ≡ account_answer n at bytes.now }
+    ensures floor { result.floor ≡ account_number (λ p. p.floor) n at bytes.now }
+    ensures top { result.top ≡ account_number (λ p. p.top) n at bytes.now }
+    ensures tonnage { result.tonnage ≡ account_number (tonnage n) n at bytes.now }
+    ensures draw { result.draw ≡ account_rights draw n at bytes.now }
+    ensures tip { result.tip ≡ account_rights tip n at bytes.now }
 {
     let answer = account_answer(bytes, at, n);
     if answer != 0 {

@@ -1,8 +1,8 @@
 // The lines of the table for one body, from its account.
 ghost use Rattle.std.specs.Prelude.{◌≡◌, ◌+◌, ◌-◌, leb, eqb};
 ghost use Rattle.rules.specs.Loops.{◌and◌, sum};
-ghost use Rattle.rules.specs.Pile.{draw, tip, topLimit, credit, lawful, openingLawful, pileAnswer};
-ghost use Rattle.layout.specs.Inner.{BodyWithin, firstBody};
+ghost use Rattle.rules.specs.Pile.{draw, tip, top_limit, credit, lawful, opening_lawful, pile_answer};
+ghost use Rattle.layout.specs.Inner.{BodyWithin, first_body};
 ghost use Rattle.audit.specs.Inner.{SideRead, ListsLong};
 
 use crate::cells::{cell, word};
@@ -14,7 +14,7 @@ use layout::limits::{TALLY_LIMIT, TOP_LIMIT};
 
 // floor ≤ top ≤ 10,000,000, and all shares add up to top - floor.
 fn opening_sound(floor: u64, top: u64, shares: u64) -> bool
-    ensures { result ≡ leb floor top and leb top topLimit and eqb shares (top - floor) }
+    ensures { result ≡ leb floor top and leb top top_limit and eqb shares (top - floor) }
 {
     if top < floor {
         return false;
@@ -42,10 +42,10 @@ fn balance_of(
     tip_given: &[u64],
 ) -> Balance
     requires body { BodyWithin n 0 body.now }
-    requires draws { SideRead (firstBody n body.now) draw n n draws.now draw_given.now }
-    requires tips { SideRead (firstBody n body.now) tip n n tips.now tip_given.now }
-    ensures covered { result.covered ≡ lawful n (firstBody n body.now) }
-    ensures credits { result.credits ≡ sum n (λ i. credit n (firstBody n body.now) draw i + credit n (firstBody n body.now) tip i) }
+    requires draws { SideRead (first_body n body.now) draw n n draws.now draw_given.now }
+    requires tips { SideRead (first_body n body.now) tip n n tips.now tip_given.now }
+    ensures covered { result.covered ≡ lawful n (first_body n body.now) }
+    ensures credits { result.credits ≡ sum n (λ i. credit n (first_body n body.now) draw i + credit n (first_body n body.now) tip i) }
 {
     let desks = n as usize;
     let size = row_length(n);
@@ -74,11 +74,11 @@ fn balance_of(
 // The lines of the table in their order, from what was found.
 fn verdict(body: &[u8], n: u8, opening: bool, own: u64, balance: Balance) -> u8
     requires body { BodyWithin n 0 body.now }
-    requires opening { opening ≡ openingLawful n (firstBody n body.now) }
-    requires own { own ≡ sum n (λ i. (firstBody n body.now).give draw i i + (firstBody n body.now).give tip i i) }
-    requires covered { balance.covered ≡ lawful n (firstBody n body.now) }
-    requires credits { balance.credits ≡ sum n (λ i. credit n (firstBody n body.now) draw i + credit n (firstBody n body.now) tip i) }
-    ensures { result ≡ pileAnswer n (firstBody n body.now) }
+    requires opening { opening ≡ opening_lawful n (first_body n body.now) }
+    requires own { own ≡ sum n (λ i. (first_body n body.now).give draw i i + (first_body n body.now).give tip i i) }
+    requires covered { balance.covered ≡ lawful n (first_body n body.now) }
+    requires credits { balance.credits ≡ sum n (λ i. credit n (first_body n body.now) draw i + credit n (first_body n body.now) tip i) }
+    ensures { result ≡ pile_answer n (first_body n body.now) }
 {
     if !opening {
         return 5;
@@ -110,7 +110,7 @@ pub(crate) fn body_answer(
     tip_given: &mut [u64],
 ) -> u8
     requires { BodyWithin n 0 body.now × ListsLong draws.old draw_given.old tips.old tip_given.old }
-    ensures answer { result ≡ pileAnswer n (firstBody n body.now) }
+    ensures answer { result ≡ pile_answer n (first_body n body.now) }
     ensures lists { ListsLong draws.new draw_given.new tips.new tip_given.new }
 {
     let shares = read_shares_of(body, n, draws, tips);

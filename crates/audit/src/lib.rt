@@ -8,7 +8,7 @@ mod tallies;
 
 ghost use Rattle.std.specs.Prelude.{◌≡◌};
 ghost use Rattle.rules.specs.Pile.{side_of};
-ghost use Rattle.audit.specs.Audits.{shapeAnswer, bodiesAnswer, rightsIn, tonnageIn};
+ghost use Rattle.audit.specs.Audits.{shape_answer, bodies_answer, rights_in, tonnage_in};
 
 use cells::cell;
 use judge::body_answer;
@@ -19,7 +19,7 @@ use rights::{body_there, left_of, less};
 
 // 2 for sizes, 3 where there are more or less bytes than p bodies from a position on.
 fn shape_answer(length: usize, from: usize, n: u8, p: usize) -> u8
-    ensures { result ≡ shapeAnswer n p from length }
+    ensures { result ≡ shape_answer n p from length }
 {
     let size = body_length(n);
     if size == 0 {
@@ -40,7 +40,7 @@ fn shape_answer(length: usize, from: usize, n: u8, p: usize) -> u8
 // One pass over p bodies from a position on, with nothing behind them: refused with 2 for sizes, 3 for the length, or as the first body that is, with 5, 6
 // or 7.
 pub fn check_bodies(bytes: &[u8], from: usize, n: u8, p: usize) -> u8
-    ensures { result ≡ bodiesAnswer n p from bytes.now }
+    ensures { result ≡ bodies_answer n p from bytes.now }
 {
     let shape = shape_answer(bytes.len(), from, n, p);
     if shape != 0 {
@@ -74,7 +74,7 @@ pub fn check_bodies(bytes: &[u8], from: usize, n: u8, p: usize) -> u8
 // What a desk's rights of a side come to in the body at a position, 0 for draw, any other for tip. The body is not judged: where the desk's debit is above its
 // credit, as in no lawful body, that is 0. It is 0 too where there is no such body or desk.
 pub fn rights_in(bytes: &[u8], at: usize, n: u8, side: u8, desk: u8) -> u64
-    ensures { result ≡ rightsIn (side_of side) n at bytes.now desk }
+    ensures { result ≡ rights_in (side_of side) n at bytes.now desk }
 {
     if !body_there(bytes.len(), at, n) {
         return 0;
@@ -91,7 +91,7 @@ pub fn rights_in(bytes: &[u8], at: usize, n: u8, side: u8, desk: u8) -> u64
 // What the tonnage comes to in the body at a position. The body is not judged: where more was drawn than it ever had, as in no lawful body, that is 0. It is 0
 // too where there is no such body.
 pub fn tonnage_in(bytes: &[u8], at: usize, n: u8) -> u64
-    ensures { result ≡ tonnageIn n at bytes.now }
+    ensures { result ≡ tonnage_in n at bytes.now }
 {
     if !body_there(bytes.len(), at, n) {
         return 0;

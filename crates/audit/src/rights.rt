@@ -1,8 +1,8 @@
 // Where a body is there, and one desk's rights in it.
 ghost use Rattle.std.specs.Prelude.{◌≡◌, ◌-◌, ◌≤◌, ◌<◌};
 ghost use Rattle.rules.specs.Pile.{side_of, rights};
-ghost use Rattle.layout.specs.Inner.{BodyWithin, firstBody};
-ghost use Rattle.audit.specs.Audits.{bodyThere};
+ghost use Rattle.layout.specs.Inner.{BodyWithin, first_body};
+ghost use Rattle.audit.specs.Audits.{body_there};
 
 use crate::cells::cell;
 use layout::cells::{earned_column, side_column};
@@ -10,7 +10,7 @@ use layout::lengths::body_length;
 
 // Is a body of n desks there from a position on?
 pub(crate) fn body_there(length: usize, at: usize, n: u8) -> bool
-    ensures { result ≡ bodyThere n at length }
+    ensures { result ≡ body_there n at length }
 {
     let size = body_length(n);
     if size == 0 {
@@ -35,7 +35,7 @@ pub(crate) fn less(credit: u64, debit: u64) -> u64
 // The rights of desk i: its share, what it earned and what it got, less what it gave and spent.
 pub(crate) fn left_of(body: &[u8], n: u8, i: u8, side: u8) -> u64
     requires { (side ≤ 1) × (i < n) × BodyWithin n 0 body.now }
-    ensures { result ≡ rights n (firstBody n body.now) (side_of side) i }
+    ensures { result ≡ rights n (first_body n body.now) (side_of side) i }
 {
     let own = i + 1;
     let mut credit = cell(body, n, 0, side_column(n, side, i))

@@ -3,9 +3,9 @@
 ghost use Rattle.std.specs.Prelude.{◌≡◌, suc, ◌+◌, ◌≤◌, leb};
 ghost use Rattle.rules.specs.Loops.{sum, every};
 ghost use Rattle.rules.specs.Numbers.{number};
-ghost use Rattle.rules.specs.Pile.{draw, tip, side_of, tallyLimit};
+ghost use Rattle.rules.specs.Pile.{draw, tip, side_of, tally_limit};
 ghost use Rattle.rules.specs.Layout.{columns, column, cell_at};
-ghost use Rattle.layout.specs.Inner.{BodyWithin, firstBody};
+ghost use Rattle.layout.specs.Inner.{BodyWithin, first_body};
 ghost use Rattle.audit.specs.Inner.{RowFits, RowAdded, SideRead};
 
 use crate::cells::cell;
@@ -41,11 +41,11 @@ fn read_rows(
     tip_given: &mut [u64],
 ) -> u64
     requires body { BodyWithin n 0 body.now }
-    requires draws { SideRead (firstBody n body.now) draw n 0 draws.old draw_given.old }
-    requires tips { SideRead (firstBody n body.now) tip n 0 tips.old tip_given.old }
-    ensures own { result ≡ sum n (λ i. (firstBody n body.now).give draw i i + (firstBody n body.now).give tip i i) }
-    ensures draws { SideRead (firstBody n body.now) draw n n draws.new draw_given.new }
-    ensures tips { SideRead (firstBody n body.now) tip n n tips.new tip_given.new }
+    requires draws { SideRead (first_body n body.now) draw n 0 draws.old draw_given.old }
+    requires tips { SideRead (first_body n body.now) tip n 0 tips.old tip_given.old }
+    ensures own { result ≡ sum n (λ i. (first_body n body.now).give draw i i + (first_body n body.now).give tip i i) }
+    ensures draws { SideRead (first_body n body.now) draw n n draws.new draw_given.new }
+    ensures tips { SideRead (first_body n body.now) tip n n tips.new tip_given.new }
 {
     let mut own: u64 = 0;
     let mut i: u8 = 0;
@@ -72,11 +72,11 @@ pub(crate) fn read_rows_of(
     tip_given: &mut [u64],
 ) -> u64
     requires body { BodyWithin n 0 body.now }
-    requires draws { SideRead (firstBody n body.now) draw n 0 draws.old draw_given.old }
-    requires tips { SideRead (firstBody n body.now) tip n 0 tips.old tip_given.old }
-    ensures own { result ≡ sum n (λ i. (firstBody n body.now).give draw i i + (firstBody n body.now).give tip i i) }
-    ensures draws { SideRead (firstBody n body.now) draw n n draws.new draw_given.new }
-    ensures tips { SideRead (firstBody n body.now) tip n n tips.new tip_given.new }
+    requires draws { SideRead (first_body n body.now) draw n 0 draws.old draw_given.old }
+    requires tips { SideRead (first_body n body.now) tip n 0 tips.old tip_given.old }
+    ensures own { result ≡ sum n (λ i. (first_body n body.now).give draw i i + (first_body n body.now).give tip i i) }
+    ensures draws { SideRead (first_body n body.now) draw n n draws.new draw_given.new }
+    ensures tips { SideRead (first_body n body.now) tip n n tips.new tip_given.new }
 {
     match n {
         1 => read_rows(body, 1, draws, draw_given, tips, tip_given),
@@ -91,7 +91,7 @@ pub(crate) fn read_rows_of(
 // Is each number of a row within the limit of a tally?
 fn row_within(body: &[u8], n: u8, row: u8) -> bool
     requires { BodyWithin n 0 body.now × (row ≤ n) }
-    ensures { result ≡ every (columns n) (λ c. leb (number 4 body.now (cell_at n row c)) tallyLimit) }
+    ensures { result ≡ every (columns n) (λ c. leb (number 4 body.now (cell_at n row c)) tally_limit) }
 {
     let all = columns_of(n);
     let mut c: u16 = 0;
@@ -107,7 +107,7 @@ fn row_within(body: &[u8], n: u8, row: u8) -> bool
 // Is each tally of n rows within its limit?
 pub(crate) fn rows_within(body: &[u8], n: u8) -> bool
     requires { BodyWithin n 0 body.now }
-    ensures { result ≡ every n (λ i. every (columns n) (λ c. leb (number 4 body.now (cell_at n (suc i) c)) tallyLimit)) }
+    ensures { result ≡ every n (λ i. every (columns n) (λ c. leb (number 4 body.now (cell_at n (suc i) c)) tally_limit)) }
 {
     let mut i: u8 = 0;
     while i < n {

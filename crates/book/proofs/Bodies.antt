@@ -11,99 +11,99 @@ use lib.ListN.{length}
 use borrow.Author.Tests.{le-leb, lt-ltb}
 use Rattle.rules.specs.Loops.{between}
 use Rattle.rules.specs.Refusals.{reply}
-use Rattle.rules.specs.Pile.{Side, Pile, rights, tonnage, topLimit}
-use Rattle.rules.specs.Layout.{headOf, bodyAt, bodyView, desks, pileOf}
-use Rattle.rules.specs.Book.{place, deskAnswer, rightsReply, tonnageReply}
-use Rattle.rules.specs.Record.{deskStart, deskCount}
+use Rattle.rules.specs.Pile.{Side, Pile, rights, tonnage, top_limit}
+use Rattle.rules.specs.Layout.{head_of, body_at, body_view, desks, pile_of}
+use Rattle.rules.specs.Book.{place, desk_answer, rights_reply, tonnage_reply}
+use Rattle.rules.specs.Record.{desk_start, desk_count}
 use Rattle.rules.proofs.Loops.Logic.{and_both}
-use Rattle.rules.proofs.Loops.Refusals.{reply-refused}
+use Rattle.rules.proofs.Loops.Refusals.{reply_refused}
 use Rattle.rules.proofs.Pile.Facts.{PileFacts, facts}
-use Rattle.rules.proofs.Pile.Tonnage.{rights-most, tonnage-within}
-use Rattle.rules.proofs.File.Readable.{BookFacts, book-facts}
-use Rattle.rules.proofs.File.Found.{found-readable, found-desk, found-place, desk-0-fetch}
-use Rattle.rules.proofs.Record.OfBody.{found-start, found-count}
-use Rattle.audit.specs.Audits.{bodyThere, rightsIn, tonnageIn}
+use Rattle.rules.proofs.Pile.Tonnage.{rights_most, tonnage_within}
+use Rattle.rules.proofs.File.Readable.{BookFacts, book_facts}
+use Rattle.rules.proofs.File.Found.{found_readable, found_desk, found_place, desk_0_fetch}
+use Rattle.rules.proofs.Record.OfBody.{found_start, found_count}
+use Rattle.audit.specs.Audits.{body_there, rights_in, tonnage_in}
 use Rattle.book.specs.Inner.{SoundBody, SoughtBody}
-use Rattle.rules.proofs.File.Positions.{body-within}
+use Rattle.rules.proofs.File.Positions.{body_within}
 
 module _ (i : ℕ) (b : List ℕ) {at : ℕ} (sound : SoundBody i b at) where
   abbrev n : ℕ
   n = desks b
 
   abbrev P : Pile
-  P = bodyView n b at
+  P = body_view n b at
 
-  pub pile-sound : PileFacts n P
-  pile-sound = facts n P sound.passes
+  pub pile_sound : PileFacts n P
+  pile_sound = facts n P sound.passes
 
-  there : bodyThere n at (length b) ≡ true
-  unfolding bodyThere between
+  there : body_there n at (length b) ≡ true
+  unfolding body_there between
   there =
       let least : 1 ≤ n = omega (arith, sound.desk) in
-      and_both (and_both (le-leb _ _ least) (le-leb _ _ sound.body.desks-most)) (le-leb _ _ sound.body.within)
+      and_both (and_both (le-leb _ _ least) (le-leb _ _ sound.body.desks_most)) (le-leb _ _ sound.body.within)
 
-  pub rights-read : (s : Side) {x : ℕ} → x ≡ rightsIn s n at b i → x ≡ rights n P s i
-  unfolding rightsIn
-  rights-read s e = e ∙ rw (and_both there (lt-ltb _ _ sound.desk))
+  pub rights_read : (s : Side) {x : ℕ} → x ≡ rights_in s n at b i → x ≡ rights n P s i
+  unfolding rights_in
+  rights_read s e = e ∙ rw (and_both there (lt-ltb _ _ sound.desk))
 
-  pub rights-small : (s : Side) {x : ℕ} → x ≡ rightsIn s n at b i → x ≤ topLimit
-  rights-small s e = rw (rights-read s e) (rights-most n P pile-sound s i sound.desk)
+  pub rights_small : (s : Side) {x : ℕ} → x ≡ rights_in s n at b i → x ≤ top_limit
+  rights_small s e = rw (rights_read s e) (rights_most n P pile_sound s i sound.desk)
 
-  pub tonnage-read : {x : ℕ} → x ≡ tonnageIn n at b → x ≡ tonnage n P
-  unfolding tonnageIn
-  tonnage-read e = e ∙ rw there
+  pub tonnage_read : {x : ℕ} → x ≡ tonnage_in n at b → x ≡ tonnage n P
+  unfolding tonnage_in
+  tonnage_read e = e ∙ rw there
 
-  pub tonnage-small : {x : ℕ} → x ≡ tonnageIn n at b → x ≤ topLimit
-  tonnage-small e = rw (tonnage-read e) (omega (arith, (tonnage-within n P pile-sound).1, pile-sound.opening.top-limit))
+  pub tonnage_small : {x : ℕ} → x ≡ tonnage_in n at b → x ≤ top_limit
+  tonnage_small e = rw (tonnage_read e) (omega (arith, (tonnage_within n P pile_sound).1, pile_sound.opening.top_limit_lem))
 
 -- the pile was found
-module _ (i : ℕ) (b : List ℕ) (number : ℕ) (found : deskAnswer i b number ≡ 0) {start : ℕ} (is : start ≡ deskStart i b number) where
+module _ (i : ℕ) (b : List ℕ) (number : ℕ) (found : desk_answer i b number ≡ 0) {start : ℕ} (is : start ≡ desk_start i b number) where
   book : BookFacts b
-  book = book-facts b (found-readable i b number found)
+  book = book_facts b (found_readable i b number found)
 
-  begins : start ≡ bodyAt (headOf b) (place b number)
-  begins = is ∙ found-start i b number found
+  begins : start ≡ body_at (head_of b) (place b number)
+  begins = is ∙ found_start i b number found
 
-  pile-is : bodyView (desks b) b start ≡ pileOf b (place b number)
-  unfolding pileOf
-  pile-is = ap (bodyView (desks b) b) begins
+  pile_is : body_view (desks b) b start ≡ pile_of b (place b number)
+  unfolding pile_of
+  pile_is = ap (body_view (desks b) b) begins
 
-  body-sound : SoundBody i b start
-  body-sound =
+  body_sound : SoundBody i b start
+  body_sound =
       record {
-        desk = found-desk i b number found;
+        desk = found_desk i b number found;
         body =
             record {
-              desks-most = book.sizes.desks-most;
-              within = omega (arith, begins, book.sized, body-within (headOf b) (place b number) (found-place i b number found));
+              desks_most = book.sizes.desks_most;
+              within = omega (arith, begins, book.sized, body_within (head_of b) (place b number) (found_place i b number found));
             };
-        passes = rw pile-is (book.bodies (place b number) (found-place i b number found));
+        passes = rw pile_is (book.bodies (place b number) (found_place i b number found));
       }
 
-  pub rights-there : (s : Side) → rightsIn s (desks b) start b i ≡ rights (desks b) (pileOf b (place b number)) s i
-  rights-there s = rw (← pile-is) (rights-read i b body-sound s refl)
+  pub rights_there : (s : Side) → rights_in s (desks b) start b i ≡ rights (desks b) (pile_of b (place b number)) s i
+  rights_there s = rw (← pile_is) (rights_read i b body_sound s refl)
 
 -- what `seek` tells of a number; a refusal is all that its reply has, whatever stands at the start
 abbrev pub Told : ℕ → List ℕ → ℕ → (m start n : ℕ) → Type 0
-Told i b number m start n = (m ≡ deskAnswer i b number) × ((start ≡ deskStart i b number) × (n ≡ deskCount i b number))
+Told i b number m start n = (m ≡ desk_answer i b number) × ((start ≡ desk_start i b number) × (n ≡ desk_count i b number))
 
 module _ (i : ℕ) (b : List ℕ) (number : ℕ) {m start n : ℕ} (told : Told i b number m start n) where
-  found : m ≡ 0 → deskAnswer i b number ≡ 0
+  found : m ≡ 0 → desk_answer i b number ≡ 0
   found z = sym told.0 ∙ z
 
-  pub sought-sound : m ≡ 0 → SoughtBody i b n start
-  sought-sound z = record { sound = body-sound i b number (found z) told.1.0; count = told.1.1 ∙ found-count i b number (found z) }
+  pub sought_sound : m ≡ 0 → SoughtBody i b n start
+  sought_sound z = record { sound = body_sound i b number (found z) told.1.0; count = told.1.1 ∙ found_count i b number (found z) }
 
-  pub sought-reply : (f : Pile → ℕ) → reply m (f (bodyView (desks b) b start)) ≡ reply (deskAnswer i b number) (f (pileOf b (place b number)))
-  sought-reply f =
-      by_cases (ℕ_discrete m 0) (λ z. rw (told.0, pile-is i b number (found z) told.1.0))
-      (λ d. rw (← told.0) (sym (reply-refused m _ d) ∙ reply-refused m _ d))
+  pub sought_reply : (f : Pile → ℕ) → reply m (f (body_view (desks b) b start)) ≡ reply (desk_answer i b number) (f (pile_of b (place b number)))
+  sought_reply f =
+      by_cases (ℕ_discrete m 0) (λ z. rw (told.0, pile_is i b number (found z) told.1.0))
+      (λ d. rw (← told.0) (sym (reply_refused m _ d) ∙ reply_refused m _ d))
 
-  pub rights-reply : (s : Side) → reply m (rights (desks b) (bodyView (desks b) b start) s i) ≡ rightsReply s i b number
-  unfolding rightsReply
-  rights-reply s = sought-reply (λ p. rights (desks b) p s i)
+  pub rights_reply_lem : (s : Side) → reply m (rights (desks b) (body_view (desks b) b start) s i) ≡ rights_reply s i b number
+  unfolding rights_reply
+  rights_reply_lem s = sought_reply (λ p. rights (desks b) p s i)
 
 module _ (b : List ℕ) (number : ℕ) {m start n : ℕ} (told : Told 0 b number m start n) where
-  pub tonnage-reply : reply m (tonnage (desks b) (bodyView (desks b) b start)) ≡ tonnageReply b number
-  unfolding tonnageReply
-  tonnage-reply = rw (← desk-0-fetch b number) (sought-reply 0 b number told (tonnage (desks b)))
+  pub tonnage_reply_lem : reply m (tonnage (desks b) (body_view (desks b) b start)) ≡ tonnage_reply b number
+  unfolding tonnage_reply
+  tonnage_reply_lem = rw (← desk_0_fetch b number) (sought_reply 0 b number told (tonnage (desks b)))

@@ -5,74 +5,74 @@ use mathlib.Core.Path.{◌≡◌, ap, sym, subst⁻¹, ◌∙◌}
 use mathlib.Core.Logic.{◌≢◌}
 use mathlib.Core.List.{List, []}
 use Rattle.rules.specs.Numbers.{part}
-use Rattle.rules.specs.Layout.{headOf, bodyLength, bodyAt, desks, piles, position}
-use Rattle.rules.specs.Book.{bookAnswer, place, fetchAnswer, deskAnswer, bodyPart, bodyStart}
-use Rattle.rules.specs.Record.{deskStart, deskCount}
-use Rattle.rules.proofs.Loops.Refusals.{when-accepted, when-refused}
-use Rattle.rules.proofs.File.Found.{found-readable, found-place, desk-0-fetch}
+use Rattle.rules.specs.Layout.{head_of, body_length, body_at, desks, piles, position}
+use Rattle.rules.specs.Book.{book_answer, place, fetch_answer, desk_answer, body_part, body_start}
+use Rattle.rules.specs.Record.{desk_start, desk_count}
+use Rattle.rules.proofs.Loops.Refusals.{when_accepted, when_refused}
+use Rattle.rules.proofs.File.Found.{found_readable, found_place, desk_0_fetch}
 use Rattle.rules.proofs.File.Refused.{body_refused}
-use Rattle.rules.proofs.Record.OfBody.{found-start, found-count}
+use Rattle.rules.proofs.Record.OfBody.{found_start, found_count}
 
 -- a readable book that has a pile at place k
 pub record HasPlace (b : List ℕ) (k : ℕ) : Type 0 where
-  pub readable : bookAnswer b ≡ 0
+  pub readable : book_answer b ≡ 0
   pub below : k < piles b
 
-module _ (i : ℕ) (b : List ℕ) (number : ℕ) {m : ℕ} (answer : m ≡ deskAnswer i b number) where
+module _ (i : ℕ) (b : List ℕ) (number : ℕ) {m : ℕ} (answer : m ≡ desk_answer i b number) where
   -- the pile was not found
   module _ (d : m ≢ 0) where
-    not_found : deskAnswer i b number ≢ 0
+    not_found : desk_answer i b number ≢ 0
     not_found z = d (answer ∙ z)
 
-    pub start-nowhere : 0 ≡ deskStart i b number
-    unfolding deskStart
-    start-nowhere = sym (when-refused _ _ _ not_found)
+    pub start_nowhere : 0 ≡ desk_start i b number
+    unfolding desk_start
+    start_nowhere = sym (when_refused _ _ _ not_found)
 
-    pub of-no-desks : 0 ≡ deskCount i b number
-    unfolding deskCount
-    of-no-desks = sym (when-refused _ _ _ not_found)
+    pub of_no_desks : 0 ≡ desk_count i b number
+    unfolding desk_count
+    of_no_desks = sym (when_refused _ _ _ not_found)
 
   -- the pile was found
   module _ (z : m ≡ 0) where
-    found : deskAnswer i b number ≡ 0
+    found : desk_answer i b number ≡ 0
     found = sym answer ∙ z
 
     -- at place k
     module _ {k : ℕ} (at : k ≡ place b number) where
-      pub has-place : HasPlace b k
-      has-place =
-          record { readable = found-readable i b number found; below = subst⁻¹ (λ (k : ℕ). k < piles b) at (found-place i b number found) }
+      pub has_place : HasPlace b k
+      has_place =
+          record { readable = found_readable i b number found; below = subst⁻¹ (λ (k : ℕ). k < piles b) at (found_place i b number found) }
 
-      pub start-at : {start : ℕ} → start ≡ bodyAt (headOf b) k → start ≡ deskStart i b number
-      start-at is = is ∙ ap (bodyAt (headOf b)) at ∙ sym (found-start i b number found)
+      pub start_at : {start : ℕ} → start ≡ body_at (head_of b) k → start ≡ desk_start i b number
+      start_at is = is ∙ ap (body_at (head_of b)) at ∙ sym (found_start i b number found)
 
-      pub count_at : desks b ≡ deskCount i b number
-      count_at = sym (found-count i b number found)
+      pub count_at : desks b ≡ desk_count i b number
+      count_at = sym (found_count i b number found)
 
-module _ (b : List ℕ) (number : ℕ) {m : ℕ} (answer : m ≡ deskAnswer 0 b number) where
-  pub fetch-is : m ≡ fetchAnswer b number
-  fetch-is = answer ∙ desk-0-fetch b number
+module _ (b : List ℕ) (number : ℕ) {m : ℕ} (answer : m ≡ desk_answer 0 b number) where
+  pub fetch_is : m ≡ fetch_answer b number
+  fetch_is = answer ∙ desk_0_fetch b number
 
   module _ (d : m ≢ 0) where
-    not-fetched : fetchAnswer b number ≢ 0
-    not-fetched z = d (fetch-is ∙ z)
+    not_fetched : fetch_answer b number ≢ 0
+    not_fetched z = d (fetch_is ∙ z)
 
-    pub part-refused : [] ≡ bodyPart b number
-    part-refused = sym (body_refused b number not-fetched)
+    pub part_refused : [] ≡ body_part b number
+    part_refused = sym (body_refused b number not_fetched)
 
-    pub start-refused : 0 ≡ bodyStart b number
-    unfolding bodyStart
-    start-refused = sym (when-refused _ _ _ not-fetched)
+    pub start_refused : 0 ≡ body_start b number
+    unfolding body_start
+    start_refused = sym (when_refused _ _ _ not_fetched)
 
   module _ (z : m ≡ 0) where
-    fetchable : fetchAnswer b number ≡ 0
-    fetchable = sym fetch-is ∙ z
+    fetchable : fetch_answer b number ≡ 0
+    fetchable = sym fetch_is ∙ z
 
     module _ {k : ℕ} (at : k ≡ place b number) where
-      pub part-found : {from size : ℕ} → from ≡ position b k → size ≡ bodyLength (desks b) → part from size b ≡ bodyPart b number
-      unfolding bodyPart
-      part-found from size = rw (from, size, at) (sym (when-accepted _ _ _ fetchable))
+      pub part_found : {from size : ℕ} → from ≡ position b k → size ≡ body_length (desks b) → part from size b ≡ body_part b number
+      unfolding body_part
+      part_found from size = rw (from, size, at) (sym (when_accepted _ _ _ fetchable))
 
-      pub start-found : {from : ℕ} → from ≡ position b k → from ≡ bodyStart b number
-      unfolding bodyStart
-      start-found from = rw (from, at) (sym (when-accepted _ _ _ fetchable))
+      pub start_found : {from : ℕ} → from ≡ position b k → from ≡ body_start b number
+      unfolding body_start
+      start_found from = rw (from, at) (sym (when_accepted _ _ _ fetchable))

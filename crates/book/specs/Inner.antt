@@ -1,8 +1,8 @@
 -- What the functions that read a book ask of its bytes: that a part lies within them, or that they have a book's size.
 -- Assumes nothing.
 use Rattle.std.specs.Prelude.{ℕ, ◌+◌, ◌≤◌, ◌<◌, ◌≡◌, List, length}
-use Rattle.rules.specs.Pile.{pileAnswer}
-use Rattle.rules.specs.Layout.{Sizes, Head, entry_at, bookLength, bodyView, desks}
+use Rattle.rules.specs.Pile.{pile_answer}
+use Rattle.rules.specs.Layout.{Sizes, Head, entry_at, book_length, body_view, desks}
 use Rattle.layout.specs.Inner.{BodyWithin}
 
 -- the entries of p piles
@@ -17,13 +17,13 @@ pub record Contents (h : Head) (b : List ℕ) : Type 0 where
 -- a whole book, and nothing behind it
 pub record BookSized (h : Head) (b : List ℕ) : Type 0 where
   pub sizes : Sizes h.desks h.piles
-  pub sized : length b ≡ bookLength h
+  pub sized : length b ≡ book_length h
 
 -- a body that passes its own check, from a position on, in a book that has a desk i
 pub record SoundBody (i : ℕ) (b : List ℕ) (at : ℕ) : Type 0 where
   pub desk : i < desks b
   pub body : BodyWithin (desks b) at b
-  pub passes : pileAnswer (desks b) (bodyView (desks b) b at) ≡ 0
+  pub passes : pile_answer (desks b) (body_view (desks b) b at) ≡ 0
 
 -- and of n desks, as it was told
 pub record SoughtBody (i : ℕ) (b : List ℕ) (n at : ℕ) : Type 0 where

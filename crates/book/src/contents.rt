@@ -1,9 +1,9 @@
 // The contents of a book: checked against its head, and searched for a pile.
 ghost use Rattle.std.specs.Prelude.{◌≡◌, eqb};
 ghost use Rattle.rules.specs.Loops.{index};
-ghost use Rattle.rules.specs.Layout.{pileNumber};
-ghost use Rattle.rules.specs.Book.{contentsSound};
-ghost use Rattle.layout.specs.Positions.{asHead};
+ghost use Rattle.rules.specs.Layout.{pile_number};
+ghost use Rattle.rules.specs.Book.{contents_sound};
+ghost use Rattle.layout.specs.Positions.{as_head};
 ghost use Rattle.book.specs.Inner.{EntriesWithin, Contents};
 
 use layout::contents::{entry_number, entry_position};
@@ -12,8 +12,8 @@ use layout::lengths::body_length;
 
 // Pile numbers rise from above 0, and each position is where its body starts.
 pub(crate) fn contents_sound(book: &[u8], head: Head) -> bool
-    requires { Contents (asHead head) book.now }
-    ensures { result ≡ contentsSound (asHead head) book.now }
+    requires { Contents (as_head head) book.now }
+    ensures { result ≡ contents_sound (as_head head) book.now }
 {
     let size = body_length(head.desks);
     let mut expected = front_length(head);
@@ -40,7 +40,7 @@ pub(crate) fn contents_sound(book: &[u8], head: Head) -> bool
 // Where a pile number stands in the contents; p where it is absent.
 pub(crate) fn place_of(book: &[u8], p: u8, number: u16) -> u8
     requires { EntriesWithin p book.now }
-    ensures { result ≡ index p (λ k. eqb (pileNumber book.now k) number) }
+    ensures { result ≡ index p (λ k. eqb (pile_number book.now k) number) }
 {
     let mut k: u8 = 0;
     while k < p {

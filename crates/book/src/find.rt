@@ -1,6 +1,6 @@
 // The place of a pile in a book, by its number.
 ghost use Rattle.std.specs.Prelude.{◌≡◌};
-ghost use Rattle.rules.specs.Book.{deskAnswer, place};
+ghost use Rattle.rules.specs.Book.{desk_answer, place};
 
 use crate::contents::place_of;
 use crate::readable::book_answer;
@@ -15,7 +15,7 @@ pub(crate) struct Found {
 
 // The book's own refusal, 11 where it does not have the desk, 10 where it does not have the pile. Every book has desk 0.
 pub(crate) fn find(book: &[u8], desk: u8, number: u16) -> Found
-    ensures answer { result.answer ≡ deskAnswer desk book.now number }
+    ensures answer { result.answer ≡ desk_answer desk book.now number }
     ensures place { result.answer ≡ 0 → result.place ≡ place book.now number }
 {
     let own = book_answer(book);

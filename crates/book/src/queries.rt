@@ -2,9 +2,9 @@
 ghost use Rattle.std.specs.Prelude.{◌≡◌};
 ghost use Rattle.rules.specs.Refusals.{reply};
 ghost use Rattle.rules.specs.Pile.{rights};
-ghost use Rattle.rules.specs.Layout.{desks, bodyView};
+ghost use Rattle.rules.specs.Layout.{desks, body_view};
 ghost use Rattle.rules.specs.Pile.{side_of};
-ghost use Rattle.pile.specs.Replies.{asReply};
+ghost use Rattle.pile.specs.Replies.{as_reply};
 ghost use Rattle.book.specs.Inner.{SoughtBody};
 
 use crate::Sought;
@@ -14,8 +14,8 @@ use pile::Amount;
 // By the body that `seek` has found. It is sought by the callers: with that in it the function is too long to be inlined, and its answer goes through memory.
 pub(crate) fn rights_of(book: &[u8], side: u8, desk: u8, found: Sought) -> Amount
     requires { found.answer ≡ 0 → SoughtBody desk book.now found.desks found.start }
-    ensures { asReply result ≡ reply found.answer
-        (rights (desks book.now) (bodyView (desks book.now) book.now found.start) (side_of side) desk) }
+    ensures { as_reply result ≡ reply found.answer
+        (rights (desks book.now) (body_view (desks book.now) book.now found.start) (side_of side) desk) }
 {
     let refusal = found.answer;
     if refusal != 0 {

@@ -1,10 +1,10 @@
 // Is a book readable? The first refusal of its bytes and bodies.
 ghost use Rattle.std.specs.Prelude.{◌≡◌};
 ghost use Rattle.rules.specs.Refusals.{first};
-ghost use Rattle.rules.specs.Pile.{pileAnswer};
-ghost use Rattle.rules.specs.Layout.{bodyView, bodyAt};
-ghost use Rattle.rules.specs.Book.{bookAnswer};
-ghost use Rattle.layout.specs.Positions.{asHead};
+ghost use Rattle.rules.specs.Pile.{pile_answer};
+ghost use Rattle.rules.specs.Layout.{body_view, body_at};
+ghost use Rattle.rules.specs.Book.{book_answer};
+ghost use Rattle.layout.specs.Positions.{as_head};
 ghost use Rattle.book.specs.Inner.{BookSized};
 
 use crate::contents::contents_sound;
@@ -13,15 +13,15 @@ use layout::head::{HEAD, Head, body_at, front_length, head_of, head_sound};
 
 // The first refusal of a body, in file order.
 pub(crate) fn bodies_answer(book: &[u8], head: Head) -> u8
-    requires { BookSized (asHead head) book.now }
-    ensures { result ≡ first head.piles (λ k. pileAnswer head.desks (bodyView head.desks book.now (bodyAt (asHead head) k))) }
+    requires { BookSized (as_head head) book.now }
+    ensures { result ≡ first head.piles (λ k. pile_answer head.desks (body_view head.desks book.now (body_at (as_head head) k))) }
 {
     check_bodies(book, front_length(head), head.desks, head.piles as usize)
 }
 
 // A book's own answer: head, length and contents, and then its bodies.
 pub(crate) fn book_answer(book: &[u8]) -> u8
-    ensures { result ≡ bookAnswer book.now }
+    ensures { result ≡ book_answer book.now }
 {
     if book.len() < HEAD {
         return 1;

@@ -5,11 +5,11 @@ use Rattle.std.specs.Prelude.{ℕ, List, replicate}
 use Rattle.rules.specs.Loops.{list}
 use Rattle.rules.specs.Refusals.{done}
 use Rattle.rules.specs.Pile.{Side}
-use Rattle.rules.specs.Layout.{deskLimit, bodyView}
+use Rattle.rules.specs.Layout.{desk_limit, body_view}
 use Rattle.rules.specs.Record.{padded}
 use Rattle.rules.specs.Bounds.{bound}
-use Rattle.audit.specs.Audits.{accountAnswer}
+use Rattle.audit.specs.Audits.{account_answer}
 
-unfoldable pub accountBounds : Side → ℕ → ℕ → List ℕ → List ℕ
-accountBounds s n at b =
-    done (accountAnswer n at b) (list deskLimit (padded n (bound n (bodyView n b at) s))) (replicate deskLimit 0)
+unfoldable pub account_bounds : Side → ℕ → ℕ → List ℕ → List ℕ
+account_bounds s n at b =
+    done (account_answer n at b) (list desk_limit (padded n (bound n (body_view n b at) s))) (replicate desk_limit 0)

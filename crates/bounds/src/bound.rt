@@ -3,7 +3,7 @@
 ghost use Rattle.std.specs.Prelude.{◌≡◌, ℕ, ◌+◌, ◌≤◌, ◌<◌, get_or};
 ghost use Rattle.rules.specs.Loops.{list};
 ghost use Rattle.rules.specs.Pile.{side_of};
-ghost use Rattle.rules.specs.Layout.{deskLimit};
+ghost use Rattle.rules.specs.Layout.{desk_limit};
 ghost use Rattle.rules.specs.Record.{padded};
 ghost use Rattle.bounds.specs.Inner.{kept};
 
@@ -22,8 +22,8 @@ pub(crate) fn bound_of(side: u8, floor: u32, top: u32, rights: u32) -> u32
 
 // The bounds of n desks, from the rights of each.
 pub(crate) fn bounds_of(side: u8, floor: u32, top: u32, rights: [u32; DESKS], n: u8) -> [u32; DESKS]
-    requires { (n ≤ deskLimit) × ((i : ℕ) → i < n → floor + get_or rights i 0 ≤ top) }
-    ensures { result ≡ list deskLimit (padded n (λ i. kept (side_of side) floor top (get_or rights i 0))) }
+    requires { (n ≤ desk_limit) × ((i : ℕ) → i < n → floor + get_or rights i 0 ≤ top) }
+    ensures { result ≡ list desk_limit (padded n (λ i. kept (side_of side) floor top (get_or rights i 0))) }
 {
     let mut bounds = [0u32; DESKS];
     let mut i: u8 = 0;

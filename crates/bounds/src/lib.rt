@@ -4,11 +4,11 @@ mod queries;
 
 ghost use Rattle.std.specs.Prelude.{◌≡◌};
 ghost use Rattle.rules.specs.Pile.{draw, tip, tonnage};
-ghost use Rattle.rules.specs.Bounds.{boundReply, recordBoundReply};
-ghost use Rattle.audit.specs.Audits.{accountAnswer, accountNumber, accountRights};
-ghost use Rattle.pile.specs.View.{asRecord};
-ghost use Rattle.pile.specs.Replies.{asReply};
-ghost use Rattle.bounds.specs.AccountBounds.{accountBounds};
+ghost use Rattle.rules.specs.Bounds.{bound_reply, record_bound_reply};
+ghost use Rattle.audit.specs.Audits.{account_answer, account_number, account_rights};
+ghost use Rattle.pile.specs.View.{as_record};
+ghost use Rattle.pile.specs.Replies.{as_reply};
+ghost use Rattle.bounds.specs.AccountBounds.{account_bounds};
 
 use audit::accounts::{Account, account_of};
 use book::seek;
@@ -27,14 +27,14 @@ pub struct Bounded {
 
 // The pile has at least so many tonnes, as far as a desk can be sure: floor and its draw rights; refused with 2, 5, 6, 7 or 11.
 pub fn pile_least(pile: Pile, desk: u8) -> Amount
-    ensures { asReply result ≡ recordBoundReply draw desk (asRecord pile) }
+    ensures { as_reply result ≡ record_bound_reply draw desk (as_record pile) }
 {
     record_bound(pile, 0, desk)
 }
 
 // The pile has at most so many tonnes, as far as a desk can be sure: top less its tip rights; refused with 2, 5, 6, 7 or 11.
 pub fn pile_most(pile: Pile, desk: u8) -> Amount
-    ensures { asReply result ≡ recordBoundReply tip desk (asRecord pile) }
+    ensures { as_reply result ≡ record_bound_reply tip desk (as_record pile) }
 {
     record_bound(pile, 1, desk)
 }
@@ -42,14 +42,14 @@ pub fn pile_most(pile: Pile, desk: u8) -> Amount
 // The account of the body of n desks at a position, and the least and the most of all desks beside it; refused with 2 for n, 3 where no body is there, then 5,
 // 6 or 7.
 pub fn bounds_in(bytes: &[u8], at: usize, n: u8) -> Bounded
-    ensures answer { result.held.answer ≡ accountAnswer n at bytes.now }
-    ensures floor { result.held.floor ≡ accountNumber (λ p. p.floor) n at bytes.now }
-    ensures top { result.held.top ≡ accountNumber (λ p. p.top) n at bytes.now }
-    ensures tonnage { result.held.tonnage ≡ accountNumber (tonnage n) n at bytes.now }
-    ensures draw { result.held.draw ≡ accountRights draw n at bytes.now }
-    ensures tip { result.held.tip ≡ accountRights tip n at bytes.now }
-    ensures least { result.least ≡ accountBounds draw n at bytes.now }
-    ensures most { result.most ≡ accountBounds tip n at bytes.now }
+    ensures answer { result.held.answer ≡ account_answer n at bytes.now }
+    ensures floor { result.held.floor ≡ account_number (λ p. p.floor) n at bytes.now }
+    ensures top { result.held.top ≡ account_number (λ p. p.top) n at bytes.now }
+    ensures tonnage { result.held.tonnage ≡ account_number (tonnage n) n at bytes.now }
+    ensures draw { result.held.draw ≡ account_rights draw n at bytes.now }
+    ensures tip { result.held.tip ≡ account_rights tip n at bytes.now }
+    ensures least { result.least ≡ account_bounds draw n at bytes.now }
+    ensures most { result.most ≡ account_bounds tip n at bytes.now }
 {
     let held = account_of(bytes, at, n);
     let answer = held.answer;
@@ -69,14 +69,14 @@ pub fn bounds_in(bytes: &[u8], at: usize, n: u8) -> Bounded
 
 // The least that a pile has, as far as a desk can be sure; refused with 1 to 7, 11 or 10.
 pub fn least(book: &[u8], desk: u8, number: u16) -> Amount
-    ensures { asReply result ≡ boundReply draw desk book.now number }
+    ensures { as_reply result ≡ bound_reply draw desk book.now number }
 {
     book_bound(book, 0, desk, seek(book, desk, number))
 }
 
 // The most that a pile has, as far as a desk can be sure; refused with 1 to 7, 11 or 10.
 pub fn most(book: &[u8], desk: u8, number: u16) -> Amount
-    ensures { asReply result ≡ boundReply tip desk book.now number }
+    ensures { as_reply result ≡ bound_reply tip desk book.now number }
 {
     book_bound(book, 1, desk, seek(book, desk, number))
 }

@@ -2,11 +2,11 @@
 ghost use Rattle.std.specs.Prelude.{◌≡◌};
 ghost use Rattle.rules.specs.Refusals.{reply};
 ghost use Rattle.rules.specs.Pile.{side_of};
-ghost use Rattle.rules.specs.Layout.{desks, bodyView};
-ghost use Rattle.rules.specs.Record.{recordRightsReply};
-ghost use Rattle.rules.specs.Bounds.{bound, recordBoundReply};
-ghost use Rattle.pile.specs.View.{asRecord};
-ghost use Rattle.pile.specs.Replies.{asReply};
+ghost use Rattle.rules.specs.Layout.{desks, body_view};
+ghost use Rattle.rules.specs.Record.{record_rights_reply};
+ghost use Rattle.rules.specs.Bounds.{bound, record_bound_reply};
+ghost use Rattle.pile.specs.View.{as_record};
+ghost use Rattle.pile.specs.Replies.{as_reply};
 ghost use Rattle.book.specs.Inner.{SoughtBody};
 
 use crate::bound::bound_of;
@@ -19,7 +19,7 @@ use pile::{Amount, Pile};
 
 // The rights that keep the bound.
 fn rights_of(pile: Pile, side: u8, desk: u8) -> Amount
-    ensures { asReply result ≡ recordRightsReply (side_of side) desk (asRecord pile) }
+    ensures { as_reply result ≡ record_rights_reply (side_of side) desk (as_record pile) }
 {
     if side == 0 {
         return pile.draw_rights(desk);
@@ -29,7 +29,7 @@ fn rights_of(pile: Pile, side: u8, desk: u8) -> Amount
 
 // Refused as the rights are.
 pub(crate) fn record_bound(pile: Pile, side: u8, desk: u8) -> Amount
-    ensures { asReply result ≡ recordBoundReply (side_of side) desk (asRecord pile) }
+    ensures { as_reply result ≡ record_bound_reply (side_of side) desk (as_record pile) }
 {
     match rights_of(pile, side, desk) {
         Amount::Tonnes(rights) => Amount::Tonnes(bound_of(side, pile.floor, pile.top, rights)),
@@ -41,8 +41,8 @@ pub(crate) fn record_bound(pile: Pile, side: u8, desk: u8) -> Amount
 // to be inlined.
 pub(crate) fn book_bound(book: &[u8], side: u8, desk: u8, found: Sought) -> Amount
     requires { found.answer ≡ 0 → SoughtBody desk book.now found.desks found.start }
-    ensures { asReply result ≡ reply found.answer
-        (bound (desks book.now) (bodyView (desks book.now) book.now found.start) (side_of side) desk) }
+    ensures { as_reply result ≡ reply found.answer
+        (bound (desks book.now) (body_view (desks book.now) book.now found.start) (side_of side) desk) }
 {
     let refusal = found.answer;
     if refusal != 0 {

@@ -1,6 +1,6 @@
 // Entering an act in a book: the desk's rights and the act's tally answer, and that one tally is written.
 ghost use Rattle.std.specs.Prelude.{◌≡◌};
-ghost use Rattle.rules.specs.Book.{actAnswer, afterAct};
+ghost use Rattle.rules.specs.Book.{act_answer, after_act};
 ghost use Rattle.desk.specs.Kinds.{kind_of, act};
 
 use crate::kinds::{Kind, column, receiver_wrong_for, side_of};
@@ -12,8 +12,8 @@ use number::{get4, put4};
 
 // The act itself: its answer, and the book after it, unaltered where it is refused.
 pub(crate) fn enter(book: &mut [u8], desk: u8, number: u16, kind: Kind, amount: u32) -> u8
-    ensures answer { result ≡ actAnswer desk (act (kind_of kind) number amount) book.old }
-    ensures book { book.new ≡ afterAct desk (act (kind_of kind) number amount) book.old }
+    ensures answer { result ≡ act_answer desk (act (kind_of kind) number amount) book.old }
+    ensures book { book.new ≡ after_act desk (act (kind_of kind) number amount) book.old }
 {
     let found = seek(book, desk, number);
     let refusal = found.answer;

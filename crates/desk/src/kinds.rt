@@ -1,7 +1,7 @@
 // The four acts as values, so that one function enters them all.
 ghost use Rattle.std.specs.Prelude.{◌≡◌};
-ghost use Rattle.rules.specs.Layout.{actColumn};
-ghost use Rattle.rules.specs.Acts.{side, receiverWrong};
+ghost use Rattle.rules.specs.Layout.{act_column};
+ghost use Rattle.rules.specs.Acts.{side, receiver_wrong};
 ghost use Rattle.rules.specs.Pile.{side_of};
 ghost use Rattle.desk.specs.Kinds.{kind_of};
 
@@ -19,7 +19,7 @@ pub(crate) enum Kind {
 
 // A give's receiver is no desk, or the giver itself.
 pub(crate) fn receiver_wrong_for(n: u8, desk: u8, kind: Kind) -> bool
-    ensures { result ≡ receiverWrong n desk (kind_of kind) }
+    ensures { result ≡ receiver_wrong n desk (kind_of kind) }
 {
     match kind {
         Kind::Tip => false,
@@ -43,7 +43,7 @@ pub(crate) fn side_of(kind: Kind) -> u8
 
 // The column of the act's tally in a row of n desks.
 pub(crate) fn column(n: u8, kind: Kind) -> u16
-    ensures { result ≡ actColumn n (kind_of kind) }
+    ensures { result ≡ act_column n (kind_of kind) }
 {
     match kind {
         Kind::Tip => earned_column(0),

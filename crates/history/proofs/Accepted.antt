@@ -11,8 +11,8 @@ use Rattle.history.specs.Claim.{IfMember, Accepted}
 use Rattle.history.proofs.Laws.{Entered, Laws}
 use Rattle.history.proofs.Sets.{cases}
 use Rattle.history.proofs.Moments.{History, latest}
-use Rattle.history.proofs.Entries.{entries, lone-run}
-use Rattle.history.proofs.Good.{Good, more, ledger-sound}
+use Rattle.history.proofs.Entries.{entries, lone_run}
+use Rattle.history.proofs.Good.{Good, more, ledger_sound}
 use Rattle.history.proofs.Stages.{full, sub}
 
 module _ {R : Replica} {n : ℕ} {Within : R.State → Type 0} {start : R.State} (laws : Laws R n Within start) where
@@ -21,12 +21,12 @@ module _ {R : Replica} {n : ℕ} {Within : R.State → Type 0} {start : R.State}
   ran [] v S G = tt
   ran (act d a ∷ h) v S (more g G) =
       let r = ran h v.1 in
-      let L = (ledger-sound R n start h v.1 (length h) d).good in
+      let L = (ledger_sound R n start h v.1 (length h) d).good in
       cases (Entered R n start) (S (length h))
       (λ s. let x = g s in (
         x.desk,
         laws.monotone d a (entries h (latest R start h d)) (entries h S) x.desk (r _ L) (r S G)
-            (λ e. sub x.held e L G) (full x.held d G (λ q p. p)) (rw (lone-run R) at x.fits),
+            (λ e. sub x.held e L G) (full x.held d G (λ q p. p)) (rw (lone_run R) at x.fits),
         r S G,
       ))
       (λ _. r S G)
@@ -42,5 +42,5 @@ module _ {R : Replica} {n : ℕ} {Within : R.State → Type 0} {start : R.State}
   accepted (act d a ∷ h) v S (more g G) =
       let r = ran (act d a ∷ h) v S (more g G) in
       let within = laws.bounds (entries (act d a ∷ h) S) r in
-      (member (S (length h)) _ (λ s. simp (lone-run R) ((rw s at r).1, within)), accepted h v.1 S G)
+      (member (S (length h)) _ (λ s. simp (lone_run R) ((rw s at r).1, within)), accepted h v.1 S G)
   accepted (take d e m ∷ h) v S (more g G) = (member (S (length h)) _ g, accepted h v.3 S G)

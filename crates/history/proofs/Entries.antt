@@ -26,11 +26,11 @@ module _ {A : Type 0} where
   kept e h S = own e (entries h S)
 
   -- an act of another desk changes nothing, and one of desk e is the newest of each set that has it
-  pub by-desk : (P : (Acts → List A) → Type 0) (e d : ℕ) (a : A) (h : List (Call A))
+  pub by_desk : (P : (Acts → List A) → Type 0) (e d : ℕ) (a : A) (h : List (Call A))
       → (eqb d e ≡ true → P (λ S. cond (S (length h)) (a ∷ kept e h S) (kept e h S))) → (eqb d e ≡ false → P (kept e h))
       → P (kept e (act d a ∷ h))
   unfolding entries
-  by-desk P e d a h mine other = go (eqb d e) refl
+  by_desk P e d a h mine other = go (eqb d e) refl
     where
       go : (b : Bool) → eqb d e ≡ b → P (kept e (act d a ∷ h))
       go true x =
@@ -42,10 +42,10 @@ module _ {A : Type 0} where
           (other x)
 
   -- a set without the newest call
-  pub entries-skip : (c : Call A) (h : List (Call A)) (S : Acts) → S (length h) ≡ false → entries (c ∷ h) S ≡ entries h S
+  pub entries_skip : (c : Call A) (h : List (Call A)) (S : Acts) → S (length h) ≡ false → entries (c ∷ h) S ≡ entries h S
   unfolding entries
-  entries-skip (act d a) h S p = rw p
-  entries-skip (take d e m) h S p = refl
+  entries_skip (act d a) h S p = rw p
+  entries_skip (take d e m) h S p = refl
 
   entries_below : (h : List (Call A)) {S T : Acts} → ((q : ℕ) → q < length h → S q ≡ T q) → entries h S ≡ entries h T
   unfolding entries
@@ -55,27 +55,27 @@ module _ {A : Type 0} where
   entries_below (take d e m ∷ h) f = entries_below h (λ q l. f q (omega arith))
 
   -- a set with it
-  pub entries-joined : (d : ℕ) (a : A) (h : List (Call A)) (S : Acts)
+  pub entries_joined : (d : ℕ) (a : A) (h : List (Call A)) (S : Acts)
       → entries (act d a ∷ h) (joined (length h) S) ≡ (d, a) ∷ entries h S
   unfolding entries
-  entries-joined d a h S =
+  entries_joined d a h S =
       rw (eq-eqb (length h) (length h) refl)
       (ap (λ es. (d, a) ∷ es) (entries_below h (λ q l. rw (ne_eqb q (length h) (omega arith)))))
 
 module _ (R : Replica) (start : R.State) where
-  pub lone-run : (h : History R) (S : Acts) → lone R start h S ≡ run R start (entries h S)
+  pub lone_run : (h : History R) (S : Acts) → lone R start h S ≡ run R start (entries h S)
   unfolding lone entries
-  lone-run [] S = refl
-  lone-run (act d a ∷ h) S =
-      arms (λ s es. s ≡ run R start es) (S (length h)) (ap (R.afterAct d a) (lone-run h S)) (lone-run h S)
-  lone-run (take d e m ∷ h) S =
-      cases (λ s. s ≡ run R start (entries h S)) (S (length h)) (λ _. lone-run h S) (λ _. lone-run h S)
+  lone_run [] S = refl
+  lone_run (act d a ∷ h) S =
+      arms (λ s es. s ≡ run R start es) (S (length h)) (ap (R.after_act d a) (lone_run h S)) (lone_run h S)
+  lone_run (take d e m ∷ h) S =
+      cases (λ s. s ≡ run R start (entries h S)) (S (length h)) (λ _. lone_run h S) (λ _. lone_run h S)
 
-  pub lone-skip : (c : Call R.Act) (h : History R) (S : Acts) → S (length h) ≡ false → lone R start (c ∷ h) S ≡ lone R start h S
+  pub lone_skip : (c : Call R.Act) (h : History R) (S : Acts) → S (length h) ≡ false → lone R start (c ∷ h) S ≡ lone R start h S
   unfolding lone
-  lone-skip c h S p = rw p
+  lone_skip c h S p = rw p
 
   -- a set with it
-  pub lone-joined : (d : ℕ) (a : R.Act) (h : History R) (S : Acts)
-      → lone R start (act d a ∷ h) (joined (length h) S) ≡ R.afterAct d a (lone R start h S)
-  lone-joined d a h S = simp (lone-run, entries-joined)
+  pub lone_joined : (d : ℕ) (a : R.Act) (h : History R) (S : Acts)
+      → lone R start (act d a ∷ h) (joined (length h) S) ≡ R.after_act d a (lone R start h S)
+  lone_joined d a h S = simp (lone_run, entries_joined)

@@ -18,7 +18,7 @@ use Rattle.history.specs.Guarantees.{◌⊆◌, OnlyTakes, MonotonicReads, ReadY
 use Rattle.history.proofs.Laws.{Laws}
 use Rattle.history.proofs.Sets.{right, or_split, same, cases}
 use Rattle.history.proofs.Moments.{History, latest, past, late, before, next, grows, newest}
-use Rattle.history.proofs.Good.{MayHave, Good, more, valid-before, ledger-sound}
+use Rattle.history.proofs.Good.{MayHave, Good, more, valid_before, ledger_sound}
 use Rattle.history.proofs.Sequential.{sequential}
 
 module _ (R : Replica) (start : R.State) where
@@ -37,7 +37,7 @@ module _ (R : Replica) (start : R.State) where
   stays f h {m} i l q p = reads (f ++ h) (length h) m i l q (rw (before R start f h (length h) i (le_refl _)) p)
 
   -- what desk j had after h, desk i has when it has taken a later copy of j's
-  heard : {f : History R} (h : History R) (i j m : ℕ) → length h ≤ m → Memᴰ (take i j m) f
+  heard : (h : History R) (i j m : ℕ) {f : History R} → length h ≤ m → Memᴰ (take i j m) f
       → latest R start h j ⊆ latest R start (f ++ h) i
   heard h i j m l (Memᴰ.head {xs = f} e) q p =
       rw (← e, next, eq-eqb i i refl) (right (latest R start (f ++ h) i) (ledger R start (f ++ h) m j) q (stays f h j l q p))
@@ -50,24 +50,25 @@ module _ {R : Replica} {n : ℕ} {start : R.State} where
   had c (x ∷ f) h (more g G) = had c f h G
 
 module _ {R : Replica} {n : ℕ} {Within : R.State → Type 0} {start : R.State} (laws : Laws R n Within start) where
-  your-writes : ReadYourWrites R n start
-  your-writes f h d a v p m l =
+  your_writes : ReadYourWrites R n start
+  your_writes f h d a v p m l =
       stays R start f (act d a ∷ h) d l (length h) (newest R start h a d d (eq-eqb d d refl)
-      (rw (sequential laws h (valid-before n f (act d a ∷ h) v).1 (length h) d) at p))
+      (rw (sequential laws h (valid_before n f (act d a ∷ h) v).1 (length h) d) at p))
 
-  follow-reads : WritesFollowReads R n start
-  follow-reads f h d a v m i p = (had (act d a) f h (ledger-sound R n start (f ++ (act d a ∷ h)) v m i).good p).held
+  follow_reads : WritesFollowReads R n start
+  follow_reads f h d a v m i p = (had (act d a) f h (ledger_sound R n start (f ++ (act d a ∷ h)) v m i).good p).held
 
   writes : MonotonicWrites R n start
   writes f g h d a b v p m i x =
       let w = g ++ (act d b ∷ h) in
-      follow-reads f w d a v m i x (length h)
-      (your-writes g h d b (valid-before n f (act d a ∷ w) v).1 p (length w) (simp length-append (omega arith)))
+      follow_reads f w d a v m i x (length h)
+      (your_writes g h d b (valid_before n f (act d a ∷ w) v).1 p (length w) (simp length-append (omega arith)))
 
   -- takes bring no act that some desk did not have
   origin : (ts h : History R) → OnlyTakes ts → Valid n (ts ++ h) → (i q : ℕ) → i < n → latest R start (ts ++ h) i q ≡ true
       → (k : ℕ) × (k < n) × (latest R start h k q ≡ true)
   origin [] h o v i q l p = (i, l, p)
+  origin (act desk _ ∷ ts) h o v i q l p = elim o [ ]
   origin (take d e m ∷ ts) h o v i q l p =
       let from = origin ts h o v.3 in
       let g = ts ++ h in
@@ -92,9 +93,9 @@ module _ {R : Replica} {n : ℕ} {Within : R.State → Type 0} {start : R.State}
   pub guarantees : Guarantees R n start
   guarantees =
       record {
-        monotonic-reads = reads R start;
-        read-your-writes = your-writes;
-        writes-follow-reads = follow-reads;
-        monotonic-writes = writes;
+        monotonic_reads = reads R start;
+        read_your_writes = your_writes;
+        writes_follow_reads = follow_reads;
+        monotonic_writes = writes;
         convergence = converged;
       }

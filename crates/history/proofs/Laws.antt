@@ -24,25 +24,25 @@ own e (x ∷ es) = cond (eqb x.0 e) (x.1 ∷ own e es) (own e es)
 -- the state after entering them in turn
 abbrev pub run : (R : Replica) → R.State → List (ℕ × R.Act) → R.State
 run R start [] = start
-run R start (x ∷ es) = R.afterAct x.0 x.1 (run R start es)
+run R start (x ∷ es) = R.after_act x.0 x.1 (run R start es)
 
 -- each is an act of one of the n desks, answered 0 in its turn
 abbrev pub Entered : (R : Replica) → ℕ → R.State → List (ℕ × R.Act) → Type 0
 Entered R n start [] = Unit {0}
-Entered R n start (x ∷ es) = (x.0 < n) × (R.actAnswer x.0 x.1 (run R start es) ≡ 0) × Entered R n start es
+Entered R n start (x ∷ es) = (x.0 < n) × (R.act_answer x.0 x.1 (run R start es) ≡ 0) × Entered R n start es
 
 module _ (R : Replica) (n : ℕ) (Within : R.State → Type 0) (start : R.State) where
   pub record Laws : Type 0 where
     -- a refused act leaves the state as it is
-    pub refused : (d : ℕ) (a : R.Act) (s : R.State) → (R.actAnswer d a s ≡ 0 → ⊥) → R.afterAct d a s ≡ s
+    pub refused : (d : ℕ) (a : R.Act) (s : R.State) → (R.act_answer d a s ≡ 0 → ⊥) → R.after_act d a s ≡ s
     -- what a desk may do, it may still do when others have acted more
     pub monotone : (d : ℕ) (a : R.Act) (es fs : List (ℕ × R.Act)) → d < n → Entered R n start es → Entered R n start fs
         → ((e : ℕ) → Ends (own e es) (own e fs)) → own d es ≡ own d fs
-        → R.actAnswer d a (run R start es) ≡ 0 → R.actAnswer d a (run R start fs) ≡ 0
+        → R.act_answer d a (run R start es) ≡ 0 → R.act_answer d a (run R start fs) ≡ 0
     -- a take gives what entering each desk's longer list gives, and is not refused
     pub join : (d : ℕ) (es fs gs : List (ℕ × R.Act)) → d < n → Entered R n start es → Entered R n start fs → Entered R n start gs
         → ((e : ℕ) → Longer (own e es) (own e fs) (own e gs)) → Ends (own d fs) (own d es)
-        → (R.takeAnswer d (run R start es) (run R start fs) ≡ 0) × (R.afterTake d (run R start es) (run R start fs) ≡ run R start gs)
+        → (R.take_answer d (run R start es) (run R start fs) ≡ 0) × (R.after_take d (run R start es) (run R start fs) ≡ run R start gs)
     -- equal states hold the same acts
     pub equal : (es fs : List (ℕ × R.Act)) → Entered R n start es → Entered R n start fs
         → ((e : ℕ) → Ends (own e es) (own e fs) ⊎ Ends (own e fs) (own e es))

@@ -17,10 +17,10 @@ use Rattle.history.specs.Books.{at}
 use Rattle.history.specs.Ledger.{Acts, joined, ledger}
 use Rattle.history.specs.Guarantees.{◌⊆◌}
 use Rattle.history.proofs.Laws.{run, Entered, Laws}
-use Rattle.history.proofs.Sets.{right, gained-wider}
+use Rattle.history.proofs.Sets.{right, gained_wider}
 use Rattle.history.proofs.Moments.{History, latest, Fits, before, next}
-use Rattle.history.proofs.Entries.{entries, lone-run, entries-joined}
-use Rattle.history.proofs.Good.{ledger-sound}
+use Rattle.history.proofs.Entries.{entries, lone_run, entries_joined}
+use Rattle.history.proofs.Good.{ledger_sound}
 use Rattle.history.proofs.Accepted.{ran}
 
 module _ (R : Replica) (n : ℕ) (start : R.State) where
@@ -42,14 +42,14 @@ module _ (R : Replica) (n : ℕ) (start : R.State) where
   -- a take of a copy with all that the taker holds, and an act that fits: what each desk then holds
   took : (e j m : ℕ) (h : History R) → latest R start h e ⊆ ledger R start h m j → (i : ℕ)
       → latest R start (take e j m ∷ h) i ≡ cond (eqb i e) (ledger R start h m j) (latest R start h i)
-  took e j m h sub i = next R start (take e j m) h i ∙ ap (λ S. cond (eqb i e) S (latest R start h i)) (gained-wider sub)
+  took e j m h sub i = next R start (take e j m) h i ∙ ap (λ S. cond (eqb i e) S (latest R start h i)) (gained_wider sub)
 
   acted : (e : ℕ) (a : R.Act) (h : History R) → Fits R start h e a → (i : ℕ)
       → latest R start (act e a ∷ h) i ≡ cond (eqb i e) (joined (length h) (latest R start h e)) (latest R start h i)
   acted e a h fits i = next R start (act e a) h i ∙ rw fits
 
   module _ {es : List (ℕ × R.Act)} {h : History R} (held : Held es h) (e : ℕ) (a : R.Act) (e<n : e < n)
-      (accepted : R.actAnswer e a (run R start es) ≡ 0) where
+      (accepted : R.act_answer e a (run R start es) ≡ 0) where
     abbrev S : Acts
     S = latest R start h held.holder
 
@@ -59,22 +59,22 @@ module _ (R : Replica) (n : ℕ) (start : R.State) where
     abbrev pub entered : History R
     entered = act e a ∷ asked
 
-    asked-holds : (i : ℕ) → latest R start asked i ≡ cond (eqb i e) S (latest R start h i)
-    asked-holds = took e held.holder (length h) h (held.all e e<n)
+    asked_holds : (i : ℕ) → latest R start asked i ≡ cond (eqb i e) S (latest R start h i)
+    asked_holds = took e held.holder (length h) h (held.all e e<n)
 
-    asked-all : latest R start asked e ≡ S
-    asked-all = asked-holds e ∙ rw (eq-eqb e e refl)
+    asked_all : latest R start asked e ≡ S
+    asked_all = asked_holds e ∙ rw (eq-eqb e e refl)
 
     fits : Fits R start asked e a
     unfolding entries
-    fits = rw (asked-all, lone-run R start asked S, held.acts) accepted
+    fits = rw (asked_all, lone_run R start asked S, held.acts) accepted
 
     entered_all : latest R start entered e ≡ joined (length asked) S
-    entered_all = acted e a asked fits e ∙ rw (eq-eqb e e refl, asked-all)
+    entered_all = acted e a asked fits e ∙ rw (eq-eqb e e refl, asked_all)
 
     -- the other desks hold what they held
-    pub entered-others : (i : ℕ) → i ≢ e → latest R start entered i ≡ latest R start h i
-    entered-others i d = acted e a asked fits i ∙ rw (ne_eqb i e d) (asked-holds i ∙ rw (ne_eqb i e d))
+    pub entered_others : (i : ℕ) → i ≢ e → latest R start entered i ≡ latest R start h i
+    entered_others i d = acted e a asked fits i ∙ rw (ne_eqb i e d) (asked_holds i ∙ rw (ne_eqb i e d))
 
     pub one_more : Held ((e, a) ∷ es) entered
     unfolding entries
@@ -84,8 +84,8 @@ module _ (R : Replica) (n : ℕ) (start : R.State) where
           holder = e;
           there = e<n;
           all = λ i l q p. by_cases (ℕ_discrete i e) (λ same. rw same at p)
-              (λ d. rw entered_all (right (λ q. eqb q (length asked)) S q (held.all i l q (rw (entered-others i d) at p))));
-          acts = rw (entered_all, entries-joined e a asked S) (ap (λ es. (e, a) ∷ es) held.acts);
+              (λ d. rw entered_all (right (λ q. eqb q (length asked)) S q (held.all i l q (rw (entered_others i d) at p))));
+          acts = rw (entered_all, entries_joined e a asked S) (ap (λ es. (e, a) ∷ es) held.acts);
         }
 
   -- the desks below k take desk j's copy of moment m
@@ -94,19 +94,19 @@ module _ (R : Replica) (n : ℕ) (start : R.State) where
   round j m (suc k) = take k j m ∷ round j m k
 
   module _ {es : List (ℕ × R.Act)} {h : History R} (held : Held es h) where
-    abbrev all-acts : Acts
-    all-acts = latest R start h held.holder
+    abbrev all_acts : Acts
+    all_acts = latest R start h held.holder
 
     abbrev told : ℕ → History R
     told k = round held.holder (length h) k ++ h
 
-    told-late : (k : ℕ) → length h ≤ length (told k)
-    told-late k = simp length-append (omega arith)
+    told_late : (k : ℕ) → length h ≤ length (told k)
+    told_late k = simp length-append (omega arith)
 
-    told-valid : (k : ℕ) → k ≤ n → Valid n (told k)
+    told_valid : (k : ℕ) → k ≤ n → Valid n (told k)
     unfolding round
-    told-valid zero l = held.valid
-    told-valid (suc k) l = (l, held.there, told-late k, told-valid k (omega arith))
+    told_valid zero l = held.valid
+    told_valid (suc k) l = (l, held.there, told_late k, told_valid k (omega arith))
 
     told_entries : (k : ℕ) (T : Acts) → entries (told k) T ≡ entries h T
     unfolding round entries
@@ -114,24 +114,24 @@ module _ (R : Replica) (n : ℕ) (start : R.State) where
     told_entries (suc k) T = told_entries k T
 
     -- a desk that has taken the copy has all acts, and none has more
-    told-holds : (k i : ℕ) → k ≤ n → i < n → (i < k → latest R start (told k) i ≡ all-acts) × (latest R start (told k) i ⊆ all-acts)
+    told_holds : (k i : ℕ) → k ≤ n → i < n → (i < k → latest R start (told k) i ≡ all_acts) × (latest R start (told k) i ⊆ all_acts)
     unfolding round
-    told-holds zero i l b = (λ x. absurd (omega arith), held.all i b)
-    told-holds (suc k) i l b =
-        let known : ledger R start (told k) (length h) held.holder ≡ all-acts = before R start (round held.holder (length h) k) h (length h) held.holder (le_refl _) in
-        let now : latest R start (told (suc k)) i ≡ cond (eqb i k) all-acts (latest R start (told k) i)
-        = took k held.holder (length h) (told k) (rw known (told-holds k k (omega arith) l).1) i ∙ rw known in
+    told_holds zero i l b = (λ x. absurd (omega arith), held.all i b)
+    told_holds (suc k) i l b =
+        let known : ledger R start (told k) (length h) held.holder ≡ all_acts = before R start (round held.holder (length h) k) h (length h) held.holder (le_refl _) in
+        let now : latest R start (told (suc k)) i ≡ cond (eqb i k) all_acts (latest R start (told k) i)
+        = took k held.holder (length h) (told k) (rw known (told_holds k k (omega arith) l).1) i ∙ rw known in
         by_cases (ℕ_discrete i k)
-        (λ e. let has : latest R start (told (suc k)) i ≡ all-acts = now ∙ rw (eq-eqb i k e) in (λ _. has, rw has (λ q p. p)))
-        (λ d. let ih = told-holds k i (omega arith) b in rw (now, ne_eqb i k d) (λ x. ih.0 (omega arith), ih.1))
+        (λ e. let has : latest R start (told (suc k)) i ≡ all_acts = now ∙ rw (eq-eqb i k e) in (λ _. has, rw has (λ q p. p)))
+        (λ d. let ih = told_holds k i (omega arith) b in rw (now, ne_eqb i k d) (λ x. ih.0 (omega arith), ih.1))
 
     levelled : Level es (told n)
     levelled =
         record {
-          valid = told-valid n (le_refl n);
-          set = all-acts;
-          all = λ i l. (told-holds n i (le_refl n) l).0 l;
-          acts = told_entries n all-acts ∙ held.acts;
+          valid = told_valid n (le_refl n);
+          set = all_acts;
+          all = λ i l. (told_holds n i (le_refl n) l).0 l;
+          acts = told_entries n all_acts ∙ held.acts;
         }
 
   -- a history for each list of entered acts, after which one desk holds them all; and one after which every desk holds just them
@@ -148,4 +148,4 @@ module _ (R : Replica) (n : ℕ) (start : R.State) where
 module _ {R : Replica} {n : ℕ} {Within : R.State → Type 0} {start : R.State} (laws : Laws R n Within start) where
   -- every set of the ledger has a history after which all desks hold just that set
   pub every_set : (h : History R) → Valid n h → (m i : ℕ) → i < n → (g : History R) × Level R n start (entries h (ledger R start h m i)) g
-  every_set h v m i l = level R n start i l _ (ran laws h v _ (ledger-sound R n start h v m i).good)
+  every_set h v m i l = level R n start i l _ (ran laws h v _ (ledger_sound R n start h v m i).good)

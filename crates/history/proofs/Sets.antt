@@ -22,11 +22,11 @@ same true b f g = sym (f refl)
 same false true f g = g refl
 same false false f g = refl
 
-pub equal-sets : {S T : Acts} → S ⊆ T → T ⊆ S → S ≡ T
-equal-sets st ts = fun_ext (λ q. same _ _ (st q) (ts q))
+pub equal_sets : {S T : Acts} → S ⊆ T → T ⊆ S → S ≡ T
+equal_sets st ts = fun_ext (λ q. same _ _ (st q) (ts q))
 
-pub gained-wider : {S T : Acts} → S ⊆ T → gained S T ≡ T
-gained-wider {S} {T} st = equal-sets (λ q p. ⊎_elim (st q) (λ t. t) (or_split (S q) p)) (right S T)
+pub gained_wider : {S T : Acts} → S ⊆ T → gained S T ≡ T
+gained_wider {S} {T} st = equal_sets (λ q p. ⊎_elim (st q) (λ t. t) (or_split (S q) p)) (right S T)
 
 pub fails : (b : Bool) → (b ≡ true → ⊥) → b ≡ false
 fails b f = same b false (λ p. absurd (f p)) (λ p. absurd (false≢true p))

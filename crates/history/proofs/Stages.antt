@@ -14,9 +14,9 @@ use Rattle.history.specs.Ledger.{Acts, gained}
 use Rattle.history.specs.Guarantees.{◌⊆◌}
 use Rattle.history.proofs.Laws.{Ends, Longer}
 use Rattle.history.proofs.Sets.{left, right, same}
-use Rattle.history.proofs.Tails.{ends-put, either-put, put_back}
+use Rattle.history.proofs.Tails.{ends_put, either_put, put_back}
 use Rattle.history.proofs.Moments.{History, latest, grows, newest}
-use Rattle.history.proofs.Entries.{entries, kept, by-desk}
+use Rattle.history.proofs.Entries.{entries, kept, by_desk}
 use Rattle.history.proofs.Good.{Good, nil, more, Sound, union}
 
 -- what holds of k, and of all below it
@@ -30,7 +30,7 @@ module _ {R : Replica} {n : ℕ} {start : R.State} {S T : Acts} (st : S ⊆ T) w
   full e nil all = refl
   full {h = act d a ∷ h} e (more g G) all =
       let p = full e G (λ q x. all q (grows R start (act d a) h e q x)) in
-      by-desk (λ k. k S ≡ k T) e d a h
+      by_desk (λ k. k S ≡ k T) e d a h
       (λ x. ap₂ (λ b r. cond b (a ∷ r) r)
       (same (S (length h)) (T (length h)) (st (length h)) (λ t. all (length h) (newest R start h a d e x (g t).fits))) p)
       (λ _. p)
@@ -41,8 +41,8 @@ module _ {R : Replica} {n : ℕ} {start : R.State} {S T : Acts} (st : S ⊆ T) w
   sub e nil nil = ([], refl)
   sub {h = act d a ∷ h} e (more g G) (more k K) =
       let p = sub e G K in
-      by-desk (λ k. Ends (k S) (k T)) e d a h
-      (λ x. ends-put a _ _ (st (length h)) (λ s. full e K (rw (eqb-true d e x) at (g s).held)) p)
+      by_desk (λ k. Ends (k S) (k T)) e d a h
+      (λ x. ends_put a _ _ (st (length h)) (λ s. full e K (rw (eqb-true d e x) at (g s).held)) p)
       (λ _. p)
   sub {h = take d i m ∷ h} e (more g G) (more k K) = sub e G K
 
@@ -53,9 +53,9 @@ module _ {R : Replica} {n : ℕ} {start : R.State} {S T : Acts} (st : S ⊆ T) w
   agree nil nil p = λ q l. absurd (omega arith)
   agree {h = act d a ∷ h} (more g G) (more k K) p =
       upto (λ q. T q ≡ true → S q ≡ true)
-      (λ y. by-desk (λ k. k S ≡ k T → S (length h) ≡ true) d d a h (λ _ z. (put_back a _ _ (st (length h)) (sub d G K) z).0 y)
+      (λ y. by_desk (λ k. k S ≡ k T → S (length h) ≡ true) d d a h (λ _ z. (put_back a _ _ (st (length h)) (sub d G K) z).0 y)
       (λ x. absurd (eqb-false d d x refl)) (p d (k y).desk))
-      (agree G K (λ e l. by-desk (λ k. k S ≡ k T → kept e h S ≡ kept e h T) e d a h
+      (agree G K (λ e l. by_desk (λ k. k S ≡ k T → kept e h S ≡ kept e h T) e d a h
       (λ _ z. (put_back a _ _ (st (length h)) (sub e G K) z).1) (λ _ z. z) (p e l)))
   agree {h = take d i m ∷ h} (more g G) (more k K) p = upto (λ q. T q ≡ true → S q ≡ true) (λ t. absurd (k t)) (agree G K p)
 
@@ -66,8 +66,8 @@ unfolding entries
 either e nil nil nil = inl refl
 either {R} {S = S} {T} {h = act d a ∷ h} e (more g G) (more k K) (more _ U) =
     let p = either e G K U in
-    by-desk (λ k. (k S ≡ k (gained S T)) ⊎ (k T ≡ k (gained S T))) e d a h
-    (λ x. either-put a _ _ (λ s. full (left S T) e U (rw (eqb-true d e x) at (g s).held))
+    by_desk (λ k. (k S ≡ k (gained S T)) ⊎ (k T ≡ k (gained S T))) e d a h
+    (λ x. either_put a _ _ (λ s. full (left S T) e U (rw (eqb-true d e x) at (g s).held))
     (λ t. full (right S T) e U (rw (eqb-true d e x) at (k t).held)) p)
     (λ _. p)
 either {h = take d i m ∷ h} e (more g G) (more k K) (more _ U) = either e G K U

@@ -10,18 +10,18 @@ use Rattle.history.proofs.Laws.{Ends}
 
 module _ {A : Type 0} (a : A) where
   -- the tail gets it only where it is the whole list
-  pub ends-put : {k l : List A} (s t : Bool) → (s ≡ true → t ≡ true) → (s ≡ true → k ≡ l) → Ends k l
+  pub ends_put : {k l : List A} (s t : Bool) → (s ≡ true → t ≡ true) → (s ≡ true → k ≡ l) → Ends k l
       → Ends (cond s (a ∷ k) k) (cond t (a ∷ l) l)
-  ends-put true true f g p = ([], ap (λ r. a ∷ r) (g refl))
-  ends-put true false f g p = absurd (false≢true (f refl))
-  ends-put false true f g p = (a ∷ p.0, ap (λ r. a ∷ r) p.1)
-  ends-put false false f g p = p
+  ends_put true true f g p = ([], ap (λ r. a ∷ r) (g refl))
+  ends_put true false f g p = absurd (false≢true (f refl))
+  ends_put false true f g p = (a ∷ p.0, ap (λ r. a ∷ r) p.1)
+  ends_put false false f g p = p
 
-  pub either-put : {k l u : List A} (s t : Bool) → (s ≡ true → k ≡ u) → (t ≡ true → l ≡ u) → (k ≡ u) ⊎ (l ≡ u)
+  pub either_put : {k l u : List A} (s t : Bool) → (s ≡ true → k ≡ u) → (t ≡ true → l ≡ u) → (k ≡ u) ⊎ (l ≡ u)
       → (cond s (a ∷ k) k ≡ cond (s || t) (a ∷ u) u) ⊎ (cond t (a ∷ l) l ≡ cond (s || t) (a ∷ u) u)
-  either-put true t f g p = inl (ap (λ r. a ∷ r) (f refl))
-  either-put false true f g p = inr (ap (λ r. a ∷ r) (g refl))
-  either-put false false f g p = p
+  either_put true t f g p = inl (ap (λ r. a ∷ r) (f refl))
+  either_put false true f g p = inr (ap (λ r. a ∷ r) (g refl))
+  either_put false false f g p = p
 
   -- equal with it: both got it or neither, and they were equal before
   pub put_back : {k l : List A} (s t : Bool) → (s ≡ true → t ≡ true) → Ends k l → cond s (a ∷ k) k ≡ cond t (a ∷ l) l

@@ -13,8 +13,8 @@ at x step (c ∷ h) m i =
 module _ (R : Replica) where
   -- A call gets its desk's state as that desk's last call left it, and a copy has the state of its moment.
   abbrev pub called : List (Call R.Act) → Call R.Act → (ℕ → ℕ → R.State) → R.State
-  called h (act d a) known = R.afterAct d a (known (length h) d)
-  called h (take d e m) known = R.afterTake d (known (length h) d) (known m e)
+  called h (act d a) known = R.after_act d a (known (length h) d)
+  called h (take d e m) known = R.after_take d (known (length h) d) (known m e)
 
   -- the state of desk i at moment m of the history h
   unfoldable pub books : R.State → List (Call R.Act) → ℕ → ℕ → R.State

@@ -13,7 +13,7 @@ IfMember false P = Unit {0}
 module _ (R : Replica) (n : ℕ) (Within : R.State → Type 0) (start : R.State) where
   -- What entering one member of a set asks: it is an act, it is answered 0 at its turn, and what it leaves is within bounds.
   abbrev pub Enters : Call R.Act → R.State → R.State → Type 0
-  Enters (act d a) before after = (R.actAnswer d a before ≡ 0) × Within after
+  Enters (act d a) before after = (R.act_answer d a before ≡ 0) × Within after
   Enters (take d e m) before after = ⊥
 
   -- along the lone dispatcher's run no act is refused, and every state is within bounds
@@ -26,7 +26,7 @@ module _ (R : Replica) (n : ℕ) (Within : R.State → Type 0) (start : R.State)
   abbrev pub ActsAnswered : List (Call R.Act) → Type 0
   ActsAnswered [] = Unit {0}
   ActsAnswered (act d a ∷ h) =
-      (R.actAnswer d a (books R start h (length h) d) ≡ R.actAnswer d a (lone R start h (ledger R start h (length h) d)))
+      (R.act_answer d a (books R start h (length h) d) ≡ R.act_answer d a (lone R start h (ledger R start h (length h) d)))
       × ActsAnswered h
   ActsAnswered (take d e m ∷ h) = ActsAnswered h
 
@@ -34,7 +34,7 @@ module _ (R : Replica) (n : ℕ) (Within : R.State → Type 0) (start : R.State)
   TakesAccepted [] = Unit {0}
   TakesAccepted (act d a ∷ h) = TakesAccepted h
   TakesAccepted (take d e m ∷ h) =
-      (R.takeAnswer d (books R start h (length h) d) (books R start h m e) ≡ 0) × TakesAccepted h
+      (R.take_answer d (books R start h (length h) d) (books R start h m e) ≡ 0) × TakesAccepted h
 
   -- The five parts, of one history. `m` and `i` range over every moment and desk.
   pub record Claim (h : List (Call R.Act)) : Type 0 where

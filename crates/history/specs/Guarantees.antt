@@ -25,7 +25,7 @@ module _ (R : Replica) (n : ℕ) (start : R.State) where
   abbrev pub ReadYourWrites : Type 0
   ReadYourWrites =
       (f h : List (Call R.Act)) (d : ℕ) (a : R.Act) → Valid n (f ++ (act d a ∷ h))
-      → R.actAnswer d a (books R start h (length h) d) ≡ 0
+      → R.act_answer d a (books R start h (length h) d) ≡ 0
       → (m : ℕ) → length h < m → ledger R start (f ++ (act d a ∷ h)) m d (length h) ≡ true
 
   -- a set with an act has all that the act's desk held when it entered it
@@ -39,7 +39,7 @@ module _ (R : Replica) (n : ℕ) (start : R.State) where
   abbrev pub MonotonicWrites : Type 0
   MonotonicWrites =
       (f g h : List (Call R.Act)) (d : ℕ) (a b : R.Act) → Valid n (f ++ (act d a ∷ (g ++ (act d b ∷ h))))
-      → R.actAnswer d b (books R start h (length h) d) ≡ 0
+      → R.act_answer d b (books R start h (length h) d) ≡ 0
       → (m i : ℕ) → ledger R start (f ++ (act d a ∷ (g ++ (act d b ∷ h)))) m i (length (g ++ (act d b ∷ h))) ≡ true
       → ledger R start (f ++ (act d a ∷ (g ++ (act d b ∷ h)))) m i (length h) ≡ true
 
@@ -51,8 +51,8 @@ module _ (R : Replica) (n : ℕ) (start : R.State) where
       → (i j : ℕ) → i < n → j < n → books R start (ts ++ h) (length (ts ++ h)) i ≡ books R start (ts ++ h) (length (ts ++ h)) j
 
   pub record Guarantees : Type 0 where
-    pub monotonic-reads : MonotonicReads R start
-    pub read-your-writes : ReadYourWrites
-    pub writes-follow-reads : WritesFollowReads
-    pub monotonic-writes : MonotonicWrites
+    pub monotonic_reads : MonotonicReads R start
+    pub read_your_writes : ReadYourWrites
+    pub writes_follow_reads : WritesFollowReads
+    pub monotonic_writes : MonotonicWrites
     pub convergence : Convergence

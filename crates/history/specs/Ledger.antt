@@ -22,7 +22,7 @@ gained S T place = S place || T place
 module _ (R : Replica) (start : R.State) where
   -- a take is no act, and enters nothing
   abbrev pub enter : Call R.Act → R.State → R.State
-  enter (act d a) s = R.afterAct d a s
+  enter (act d a) s = R.after_act d a s
   enter (take d e m) s = s
 
   -- the lone dispatcher's state: the set's acts entered one by one, in the order of the list
@@ -32,11 +32,11 @@ module _ (R : Replica) (start : R.State) where
 
   -- What a call does to its desk's set.
   -- An act joins where the lone dispatcher, with what the desk holds, is not refused it.
-  abbrev pub heldAfter : List (Call R.Act) → Call R.Act → (ℕ → ℕ → Acts) → Acts
-  heldAfter h (act d a) known =
-      cond (eqb (R.actAnswer d a (lone h (known (length h) d))) 0) (joined (length h) (known (length h) d)) (known (length h) d)
-  heldAfter h (take d e m) known = gained (known (length h) d) (known m e)
+  abbrev pub held_after : List (Call R.Act) → Call R.Act → (ℕ → ℕ → Acts) → Acts
+  held_after h (act d a) known =
+      cond (eqb (R.act_answer d a (lone h (known (length h) d))) 0) (joined (length h) (known (length h) d)) (known (length h) d)
+  held_after h (take d e m) known = gained (known (length h) d) (known m e)
 
   -- the set of acts that desk i holds at moment m of the history h
   unfoldable pub ledger : List (Call R.Act) → ℕ → ℕ → Acts
-  ledger h m i = at none heldAfter h m i
+  ledger h m i = at none held_after h m i

@@ -6,11 +6,11 @@ use Rattle.std.specs.Prelude.{ℕ, ◌≤◌, ◌<◌, List, [], ◌∷◌, leng
 pub record Replica : Type 1 where
   pub State : Type 0
   pub Act : Type 0
-  pub actAnswer : ℕ → Act → State → ℕ
-  pub afterAct : ℕ → Act → State → State
+  pub act_answer : ℕ → Act → State → ℕ
+  pub after_act : ℕ → Act → State → State
   -- the taker's desk, its own state, and the copy: a take is a state-based merge
-  pub takeAnswer : ℕ → State → State → ℕ
-  pub afterTake : ℕ → State → State → State
+  pub take_answer : ℕ → State → State → ℕ
+  pub after_take : ℕ → State → State → State
 
 -- A step: an act at a desk, or a desk's take of the copy that was made of source's state at a moment.
 -- A moment counts the calls before it: 0 is the start.

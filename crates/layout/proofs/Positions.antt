@@ -10,34 +10,34 @@ use mathlib.Core.List.{List}
 use lib.ListN.{length}
 use borrow.Author.Tests.{le-ltb}
 use Rattle.rules.specs.Loops.{between}
-use Rattle.rules.specs.Layout.{Head, headOf, deskLimit, bodyLength, frontLength, bodyAt}
-use Rattle.rules.specs.Opening.{bodySize}
-use Rattle.rules.proofs.Loops.Logic.{decided, in-range}
-use Rattle.rules.proofs.File.BodySize.{size-in-range}
-use Rattle.rules.proofs.File.Positions.{body-start}
-use Rattle.layout.proofs.Short.{body-most}
-use Rattle.layout.specs.Positions.{headIn, bodyPosition}
+use Rattle.rules.specs.Layout.{Head, head_of, desk_limit, body_length, front_length, body_at}
+use Rattle.rules.specs.Opening.{body_size}
+use Rattle.rules.proofs.Loops.Logic.{decided, in_range}
+use Rattle.rules.proofs.File.BodySize.{size_in_range}
+use Rattle.rules.proofs.File.Positions.{body_start_lem}
+use Rattle.layout.proofs.Short.{body_most}
+use Rattle.layout.specs.Positions.{head_in, body_position}
 
-pub size-most : (n : ℕ) → bodySize n ≤ 648
-unfolding bodySize
-size-most n =
-    ⊎_elim (λ t. omega (arith, ap (λ b. cond b (bodyLength n) 0) t, body-most n (in-range 1 deskLimit n t).1))
-    (λ f. omega (arith, ap (λ b. cond b (bodyLength n) 0) f)) (decided (between 1 deskLimit n))
+pub size_most : (n : ℕ) → body_size n ≤ 648
+unfolding body_size
+size_most n =
+    ⊎_elim (λ t. omega (arith, ap (λ b. cond b (body_length n) 0) t, body_most n (in_range 1 desk_limit n t).1))
+    (λ f. omega (arith, ap (λ b. cond b (body_length n) 0) f)) (decided (between 1 desk_limit n))
 
-pub front-most : (h : Head) → h.piles ≤ 255 → frontLength h ≤ 1534
-unfolding frontLength
-front-most h l = omega arith
+pub front_most : (h : Head) → h.piles ≤ 255 → front_length h ≤ 1534
+unfolding front_length
+front_most h l = omega arith
 
-pub position-most : (h : Head) (k : ℕ) → h.piles ≤ 255 → k ≤ 255 → bodyPosition h k ≤ 166774
-unfolding bodyPosition
-position-most h k p≤ k≤ = omega (arith, front-most h p≤, mul-le-mul k≤ (size-most h.desks))
+pub position_most : (h : Head) (k : ℕ) → h.piles ≤ 255 → k ≤ 255 → body_position h k ≤ 166774
+unfolding body_position
+position_most h k p≤ k≤ = omega (arith, front_most h p≤, mul-le-mul k≤ (size_most h.desks))
 
 -- for 1 to 8 desks a position is where the body starts
-pub position-is : (h : Head) (k : ℕ) → 1 ≤ h.desks → h.desks ≤ deskLimit → bodyPosition h k ≡ bodyAt h k
-unfolding bodyPosition
-position-is h k least most = ap (λ (x : ℕ). frontLength h + k * x) (size-in-range h.desks least most) ∙ sym (body-start h k)
+pub position_is : (h : Head) (k : ℕ) → 1 ≤ h.desks → h.desks ≤ desk_limit → body_position h k ≡ body_at h k
+unfolding body_position
+position_is h k least most = ap (λ (x : ℕ). front_length h + k * x) (size_in_range h.desks least most) ∙ sym (body_start_lem h k)
 
 -- of a book that has its head, that head is read
-pub head-there : (b : List ℕ) → 4 ≤ length b → headIn b ≡ headOf b
-unfolding headIn
-head-there b long = rw (le-ltb _ _ long)
+pub head_there : (b : List ℕ) → 4 ≤ length b → head_in b ≡ head_of b
+unfolding head_in
+head_there b long = rw (le-ltb _ _ long)

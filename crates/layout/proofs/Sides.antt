@@ -5,12 +5,12 @@ use mathlib.Core.Path.{◌≡◌, refl, ap}
 use mathlib.Core.Logic.{◌≢◌}
 use Rattle.rules.specs.Pile.{draw, tip, side_of}
 
-pub draw-side : {side : ℕ} → side ≡ 0 → side_of side ≡ draw
-draw-side e = ap side_of e
+pub draw_side : {side : ℕ} → side ≡ 0 → side_of side ≡ draw
+draw_side e = ap side_of e
 
-tip-of : (side : ℕ) → side ≢ 0 → side_of side ≡ tip
-tip-of zero d = absurd (d refl)
-tip-of (suc n) d = refl
+tip_of : (side : ℕ) → side ≢ 0 → side_of side ≡ tip
+tip_of zero d = absurd (d refl)
+tip_of (suc n) d = refl
 
-pub tip-side : {side : ℕ} → side ≢ 0 → side_of side ≡ tip
-tip-side {side} d = tip-of side d
+pub tip_side : {side : ℕ} → side ≢ 0 → side_of side ≡ tip
+tip_side {side} d = tip_of side d

@@ -1,7 +1,7 @@
 // Where the numbers of a body stand: in which column of a row, and at which position from the body's start. A side is 0 for draw, any other for tip.
 ghost use Rattle.std.specs.Prelude.{◌≡◌};
 ghost use Rattle.rules.specs.Pile.{side_of};
-ghost use Rattle.rules.specs.Layout.{columns, earnedColumn, column, cell_at};
+ghost use Rattle.rules.specs.Layout.{columns, earned_column, column, cell_at};
 
 use crate::lengths::{NUMBER, row_length};
 
@@ -14,7 +14,7 @@ pub fn columns_of(n: u8) -> u16
 
 // The column of what earned a desk rights of a side: what it tipped, or what it drew. The opening has floor and top there.
 pub fn earned_column(side: u8) -> u16
-    ensures { result ≡ earnedColumn (side_of side) }
+    ensures { result ≡ earned_column (side_of side) }
 {
     if side == 0 {
         return 0;

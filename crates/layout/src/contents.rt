@@ -1,7 +1,7 @@
 // The contents of a book: an entry for each pile, its number and where its body starts.
 ghost use Rattle.std.specs.Prelude.{◌≡◌};
-ghost use Rattle.rules.specs.Layout.{pileNumber, position};
-ghost use Rattle.layout.specs.Positions.{asHead, entryNumber, entryPosition, putHeadAnswer, afterPutHead, putEntryAnswer, afterPutEntry};
+ghost use Rattle.rules.specs.Layout.{pile_number, position};
+ghost use Rattle.layout.specs.Positions.{as_head, entry_number, entry_position, put_head_answer, after_put_head, put_entry_answer, after_put_entry};
 
 use crate::head::{ENTRY, HEAD, Head, body_at, entry_at};
 use number::{get2, get4, put2, put4};
@@ -12,20 +12,20 @@ const POSITION: usize = 2;
 // The pile number of an entry, and where the entry says that the pile's body starts. Bytes that are not there count as 0. Of an entry that is known to have
 // its bytes they are read without a test.
 pub fn entry_number(entry: &[u8]) -> u16
-    ensures { result ≡ entryNumber entry.now }
+    ensures { result ≡ entry_number entry.now }
 {
     get2(entry, 0)
 }
 
 pub fn entry_position(entry: &[u8]) -> u32
-    ensures { result ≡ entryPosition entry.now }
+    ensures { result ≡ entry_position entry.now }
 {
     get4(entry, POSITION)
 }
 
 // The same of entry k of a book.
 pub fn pile_number(book: &[u8], k: u8) -> u16
-    ensures { result ≡ pileNumber book.now k }
+    ensures { result ≡ pile_number book.now k }
 {
     get2(book, entry_at(k))
 }
@@ -38,8 +38,8 @@ pub fn position(book: &[u8], k: u8) -> u32
 
 // Writes a head at the start of a buffer; refused with 8 where it has no room, and nothing is written then.
 pub fn put_head(out: &mut [u8], head: Head) -> u8
-    ensures answer { result ≡ putHeadAnswer out.old }
-    ensures out { out.new ≡ afterPutHead (asHead head) out.old }
+    ensures answer { result ≡ put_head_answer out.old }
+    ensures out { out.new ≡ after_put_head (as_head head) out.old }
 {
     if out.len() < HEAD {
         return 8;
@@ -53,8 +53,8 @@ pub fn put_head(out: &mut [u8], head: Head) -> u8
 
 // Writes entry k of a book with this head: a pile's number, and where its body starts; refused with 8 where it has no room, and nothing is written then.
 pub fn put_entry(out: &mut [u8], head: Head, k: u8, number: u16) -> u8
-    ensures answer { result ≡ putEntryAnswer k out.old }
-    ensures out { out.new ≡ afterPutEntry (asHead head) k number out.old }
+    ensures answer { result ≡ put_entry_answer k out.old }
+    ensures out { out.new ≡ after_put_entry (as_head head) k number out.old }
 {
     let at = entry_at(k);
     if out.len() < at + ENTRY {

@@ -1,9 +1,9 @@
 // The head of a book, and where by it the contents and the bodies stand.
 ghost use Rattle.std.specs.Prelude.{◌≡◌, suc, ◌*◌};
-ghost use Rattle.rules.specs.Layout.{headFor, sizesInRange, entry_at, frontLength};
-ghost use Rattle.rules.specs.Opening.{bufferLength};
-ghost use Rattle.rules.specs.Book.{headSound};
-ghost use Rattle.layout.specs.Positions.{asHead, headIn, bodyPosition};
+ghost use Rattle.rules.specs.Layout.{head_for, sizes_in_range, entry_at, front_length};
+ghost use Rattle.rules.specs.Opening.{buffer_length};
+ghost use Rattle.rules.specs.Book.{head_sound};
+ghost use Rattle.layout.specs.Positions.{as_head, head_in, body_position};
 
 use crate::lengths::body_length;
 use crate::limits::{DESKS, PILES};
@@ -26,7 +26,7 @@ pub struct Head {
 
 // The head of a book; all zeros where there are fewer than 4 bytes.
 pub fn head_of(book: &[u8]) -> Head
-    ensures { asHead result ≡ headIn book.now }
+    ensures { as_head result ≡ head_in book.now }
 {
     if book.len() < HEAD {
         return Head {
@@ -46,7 +46,7 @@ pub fn head_of(book: &[u8]) -> Head
 
 // The head of a book of n desks and p piles, as it is written.
 pub fn head_for(n: u8, p: u8) -> Head
-    ensures { asHead result ≡ headFor n p }
+    ensures { as_head result ≡ head_for n p }
 {
     Head {
         version: VERSION,
@@ -58,7 +58,7 @@ pub fn head_for(n: u8, p: u8) -> Head
 
 // 1 to 8 desks, 1 to 32 piles.
 pub fn sizes_in_range(n: u8, p: u8) -> bool
-    ensures { result ≡ sizesInRange n p }
+    ensures { result ≡ sizes_in_range n p }
 {
     if n < 1 {
         return false;
@@ -74,7 +74,7 @@ pub fn sizes_in_range(n: u8, p: u8) -> bool
 
 // Version 1, sizes in range, 0.
 pub fn head_sound(head: Head) -> bool
-    ensures { result ≡ headSound (asHead head) }
+    ensures { result ≡ head_sound (as_head head) }
 {
     if head.version != VERSION {
         return false;
@@ -94,14 +94,14 @@ pub fn entry_at(k: u8) -> usize
 
 // All before the bodies.
 pub fn front_length(head: Head) -> usize
-    ensures { result ≡ frontLength (asHead head) }
+    ensures { result ≡ front_length (as_head head) }
 {
     HEAD + head.piles as usize * ENTRY
 }
 
 // Where body k starts; the book ends where a body p would. Of desks that no book has a body has no length.
 pub fn body_at(head: Head, k: u8) -> usize
-    ensures { result ≡ bodyPosition (asHead head) k }
+    ensures { result ≡ body_position (as_head head) k }
 {
     front_length(head) + k as usize * body_length(head.desks)
 }
@@ -115,7 +115,7 @@ pub fn rows_of(head: Head) -> usize
 
 // What a buffer for a book of n desks and p piles must hold: 0 where there is no such book.
 pub fn book_length(n: u8, p: u8) -> usize
-    ensures { result ≡ bufferLength n p }
+    ensures { result ≡ buffer_length n p }
 {
     if !sizes_in_range(n, p) {
         return 0;

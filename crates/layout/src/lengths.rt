@@ -1,8 +1,8 @@
 // How long the parts of a book are, in bytes.
 ghost use Rattle.std.specs.Prelude.{◌≡◌};
-ghost use Rattle.rules.specs.Layout.{rowLength};
-ghost use Rattle.rules.specs.Opening.{bodySize};
-ghost use Rattle.rules.specs.Rows.{isRowLength};
+ghost use Rattle.rules.specs.Layout.{row_length};
+ghost use Rattle.rules.specs.Opening.{body_size};
+ghost use Rattle.rules.specs.Rows.{is_row_length};
 
 use crate::limits::{DESKS, PILES};
 
@@ -23,7 +23,7 @@ pub const LONGEST_BOOK: usize = 20_932;
 
 // The length of a body of n desks; 0 where no book has n desks.
 pub fn body_length(n: u8) -> usize
-    ensures { result ≡ bodySize n }
+    ensures { result ≡ body_size n }
 {
     if n < 1 {
         return 0;
@@ -36,14 +36,14 @@ pub fn body_length(n: u8) -> usize
 
 // The length of a row of n desks: two numbers, and one of each side for each desk.
 pub fn row_length(n: u8) -> usize
-    ensures { result ≡ rowLength n }
+    ensures { result ≡ row_length n }
 {
     2 * NUMBER * (n as usize + 1)
 }
 
 // Is it the length of a row of 1 to 8 desks?
 pub fn is_row_length(len: usize) -> bool
-    ensures { result ≡ isRowLength len }
+    ensures { result ≡ is_row_length len }
 {
     if len % 8 != 0 {
         return false;

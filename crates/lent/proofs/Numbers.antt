@@ -70,9 +70,9 @@ abbrev pub as_passed : (n : ℕ) (κs : Lfts n) (ws : List Width) → Numbers n 
 as_passed n κs [] ns = tt
 as_passed n κs (w ∷ ws) ns = (ns.0, as_passed n κs ws ns.1)
 
-pub passed-fit : (n : ℕ) (κs : Lfts n) (ws : List Width) (ns : Numbers n κs ws) → Fit n κs ws ns → Fit 0 tt ws (as_passed n κs ws ns)
-passed-fit n κs [] ns f = tt
-passed-fit n κs (w ∷ ws) ns f = (f.0, passed-fit n κs ws ns.1 f.1)
+pub passed_fit : (n : ℕ) (κs : Lfts n) (ws : List Width) (ns : Numbers n κs ws) → Fit n κs ws ns → Fit 0 tt ws (as_passed n κs ws ns)
+passed_fit n κs [] ns f = tt
+passed_fit n κs (w ∷ ws) ns f = (f.0, passed_fit n κs ws ns.1 f.1)
 
 -- ---- in MIR
 abbrev pub locals : List Width → List Local → List Local
@@ -103,11 +103,11 @@ cells n κs [] bs ns = ftrue
 cells n κs (w ∷ ws) bs ns = fsep (fat full_share (ty_int w) bs.0 zero (vint w ns.0)) (fsep (fdies (ty_int w) bs.0) (cells n κs ws bs.1 ns.1))
 
 module _ {M : Type 1} (𝓤 : Ura M) (H : Heap 𝓤) where
-  abbrev pub envOf : (ws : List Width) → Blocks ws → Env 𝓤 H → Env 𝓤 H
-  envOf [] bs E = E
-  envOf (w ∷ ws) bs E = (ty_int w, bs.0) ∷ envOf ws bs.1 E
+  abbrev pub env_of : (ws : List Width) → Blocks ws → Env 𝓤 H → Env 𝓤 H
+  env_of [] bs E = E
+  env_of (w ∷ ws) bs E = (ty_int w, bs.0) ∷ env_of ws bs.1 E
 
-  pub spot_past : (ws : List Width) (bs : Blocks ws) (E : Env 𝓤 H) (j : ℕ) → spot_of 𝓤 H (envOf ws bs E) (past ws j) ≡ spot_of 𝓤 H E j
+  pub spot_past : (ws : List Width) (bs : Blocks ws) (E : Env 𝓤 H) (j : ℕ) → spot_of 𝓤 H (env_of ws bs E) (past ws j) ≡ spot_of 𝓤 H E j
   spot_past [] bs E j = refl
   spot_past (w ∷ ws) bs E j = spot_past ws bs.1 E j
 
@@ -133,7 +133,7 @@ module _ {M : Type 1} {𝓤 : Ura M} {𝓛 : Logic 𝓤} {K : Type 0} where
   open 𝓛 use {H}
 
   pub room_for : K → (ws : List Width) {ls : List Local} {Kt : Env 𝓤 H → Goal 𝓤 H} {Γ : List (Item 𝓤)}
-      → ((bs : Blocks ws) → Seq K 𝓛 (‵ (rooms ws bs) ∷ Γ) (allocs ls (λ E. Kt (envOf 𝓤 H ws bs E)))) → Seq K 𝓛 Γ (allocs (locals ws ls) Kt)
+      → ((bs : Blocks ws) → Seq K 𝓛 (‵ (rooms ws bs) ∷ Γ) (allocs ls (λ E. Kt (env_of 𝓤 H ws bs E)))) → Seq K 𝓛 Γ (allocs (locals ws ls) Kt)
   room_for t [] k = nothing t $ k tt
   room_for t (w ∷ ws) {ls} {Kt} {Γ} k = alloc1 t (λ b. room_for t ws {ls = ls} {Kt = λ E. Kt ((ty_int w, b) ∷ E)} (λ bs. move t (1 ∷ 2 ∷ 0 ∷ []) $ fjoin3 t $ k (b, bs)))
 
@@ -153,12 +153,12 @@ module _ {M : Type 1} {𝓤 : Ura M} {𝓛 : Logic 𝓤} {K : Type 0} where
 
   module _ (n : ℕ) (κs : Lfts n) where
     pub pass_all : K → (ws : List Width) (bs : Blocks ws) (ns : Numbers n κs ws) → Fit n κs ws ns → (E : Env 𝓤 H) {g : Goal 𝓤 H} {Γ : List (Item 𝓤)}
-        → Step K 𝓛 (‵ (cells n κs ws bs ns) ∷ Γ) g (‵ (rooms ws bs) ∷ Γ) (passes (envOf 𝓤 H ws bs E) (row n κs ws ns) g)
+        → Step K 𝓛 (‵ (cells n κs ws bs ns) ∷ Γ) g (‵ (rooms ws bs) ∷ Γ) (passes (env_of 𝓤 H ws bs E) (row n κs ws ns) g)
     pass_all t [] bs ns f E = pass0 t
     pass_all t (w ∷ ws) bs ns f E {g} {Γ} = step (λ s. fsplit3 t $ pass1 t (init t 0 refl ((uint_Lawful 𝓛 w).typed ns.0 _ f.0).0) $ move t (2 ∷ 0 ∷ 1 ∷ []) $
         pass_all t ws bs.1 ns.1 f.1 E {g = g} $ move t (1 ∷ 2 ∷ 0 ∷ []) $ fjoin3 t $ s)
 
-    pub read_all : K → (ws : List Width) (bs : Blocks ws) (ns : Numbers n κs ws) (E E' : Env 𝓤 H) (at : ℕ → ℕ) → ((j : ℕ) → spot_of 𝓤 H E (at j) ≡ spot_of 𝓤 H (envOf 𝓤 H ws bs E') j) → {Γ : List (Item 𝓤)}
+    pub read_all : K → (ws : List Width) (bs : Blocks ws) (ns : Numbers n κs ws) (E E' : Env 𝓤 H) (at : ℕ → ℕ) → ((j : ℕ) → spot_of 𝓤 H E (at j) ≡ spot_of 𝓤 H (env_of 𝓤 H ws bs E') j) → {Γ : List (Item 𝓤)}
         → Opds K 𝓛 (‵ (cells n κs ws bs ns) ∷ Γ) E (operands at ws) (row 0 tt ws (as_passed n κs ws ns))
     read_all t [] bs ns E E' at spots = no_more t
     read_all t (w ∷ ws) bs ns E E' at spots {Γ} =
@@ -167,6 +167,6 @@ module _ {M : Type 1} {𝓤 : Ura M} {𝓛 : Logic 𝓤} {K : Type 0} where
         (and_then t (load t (found t (spots zero) (stop t)) (look t 1 refl)) (read_all t ws bs.1 ns.1 E E' (λ j. at (suc j)) (λ j. spots (suc j))))
 
     pub free_all : K → (ws : List Width) (bs : Blocks ws) (ns : Numbers n κs ws) (E : Env 𝓤 H) {g : Goal 𝓤 H} {Γ : List (Item 𝓤)}
-        → Step K 𝓛 Γ (frees E g) (‵ (cells n κs ws bs ns) ∷ Γ) (frees (envOf 𝓤 H ws bs E) g)
+        → Step K 𝓛 Γ (frees E g) (‵ (cells n κs ws bs ns) ∷ Γ) (frees (env_of 𝓤 H ws bs E) g)
     free_all t [] bs ns E = drop t
     free_all t (w ∷ ws) bs ns E {g} {Γ} = step (λ s. fsplit3 t $ forget t 0 refl $ free1 t $ free_all t ws bs.1 ns.1 E {g = g} $ s)

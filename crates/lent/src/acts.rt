@@ -2,15 +2,15 @@
 ghost use Rattle.std.specs.Prelude.{◌≡◌};
 ghost use Rattle.rules.specs.Pile as side;
 ghost use Rattle.rules.specs.Acts.{spend, give};
-ghost use Rattle.rules.specs.Record.{recordActAnswer, recordAfterAct};
-ghost use Rattle.pile.specs.View.{asRecord};
+ghost use Rattle.rules.specs.Record.{record_act_answer, record_after_act};
+ghost use Rattle.pile.specs.View.{as_record};
 
 use pile::Pile;
 
 // A desk tips onto the lent pile; refused with 2, 5, 6, 7, 11, 13, 14 or 15, and then the record is unaltered.
 pub fn tip(pile: &mut Pile, desk: u8, amount: u32) -> u8
-    ensures answer { result ≡ recordActAnswer desk (spend side.tip) amount (asRecord pile.old) }
-    ensures pile { asRecord pile.new ≡ recordAfterAct desk (spend side.tip) amount (asRecord pile.old) }
+    ensures answer { result ≡ record_act_answer desk (spend side.tip) amount (as_record pile.old) }
+    ensures pile { as_record pile.new ≡ record_after_act desk (spend side.tip) amount (as_record pile.old) }
 {
     let outcome = (*pile).tip(desk, amount);
     *pile = outcome.pile;
@@ -19,8 +19,8 @@ pub fn tip(pile: &mut Pile, desk: u8, amount: u32) -> u8
 
 // A desk draws from the lent pile; refused with 2, 5, 6, 7, 11, 13, 14 or 15, and then the record is unaltered.
 pub fn draw(pile: &mut Pile, desk: u8, amount: u32) -> u8
-    ensures answer { result ≡ recordActAnswer desk (spend side.draw) amount (asRecord pile.old) }
-    ensures pile { asRecord pile.new ≡ recordAfterAct desk (spend side.draw) amount (asRecord pile.old) }
+    ensures answer { result ≡ record_act_answer desk (spend side.draw) amount (as_record pile.old) }
+    ensures pile { as_record pile.new ≡ record_after_act desk (spend side.draw) amount (as_record pile.old) }
 {
     let outcome = (*pile).draw(desk, amount);
     *pile = outcome.pile;
@@ -29,8 +29,8 @@ pub fn draw(pile: &mut Pile, desk: u8, amount: u32) -> u8
 
 // A desk gives draw rights of the lent pile; refused with 2, 5, 6, 7 or 11 to 15, and then the record is unaltered.
 pub fn give_draw(pile: &mut Pile, desk: u8, receiver: u8, amount: u32) -> u8
-    ensures answer { result ≡ recordActAnswer desk (give side.draw receiver) amount (asRecord pile.old) }
-    ensures pile { asRecord pile.new ≡ recordAfterAct desk (give side.draw receiver) amount (asRecord pile.old) }
+    ensures answer { result ≡ record_act_answer desk (give side.draw receiver) amount (as_record pile.old) }
+    ensures pile { as_record pile.new ≡ record_after_act desk (give side.draw receiver) amount (as_record pile.old) }
 {
     let outcome = (*pile).give_draw(desk, receiver, amount);
     *pile = outcome.pile;
@@ -39,8 +39,8 @@ pub fn give_draw(pile: &mut Pile, desk: u8, receiver: u8, amount: u32) -> u8
 
 // A desk gives tip rights of the lent pile; refused with 2, 5, 6, 7 or 11 to 15, and then the record is unaltered.
 pub fn give_tip(pile: &mut Pile, desk: u8, receiver: u8, amount: u32) -> u8
-    ensures answer { result ≡ recordActAnswer desk (give side.tip receiver) amount (asRecord pile.old) }
-    ensures pile { asRecord pile.new ≡ recordAfterAct desk (give side.tip receiver) amount (asRecord pile.old) }
+    ensures answer { result ≡ record_act_answer desk (give side.tip receiver) amount (as_record pile.old) }
+    ensures pile { as_record pile.new ≡ record_after_act desk (give side.tip receiver) amount (as_record pile.old) }
 {
     let outcome = (*pile).give_tip(desk, receiver, amount);
     *pile = outcome.pile;

@@ -1,9 +1,9 @@
 // The contents of a book, filled into a list of entries that the caller lends.
 ghost use Rattle.std.specs.Prelude.{◌≡◌, ◌<◌, length};
 ghost use Rattle.rules.specs.Refusals.{done};
-ghost use Rattle.rules.specs.Layout.{pileNumber, position};
-ghost use Rattle.rules.specs.Book.{contentsAnswer, afterContents};
-ghost use Rattle.layout.specs.Positions.{headIn};
+ghost use Rattle.rules.specs.Layout.{pile_number, position};
+ghost use Rattle.rules.specs.Book.{contents_answer, after_contents};
+ghost use Rattle.layout.specs.Positions.{head_in};
 ghost use Rattle.lent.specs.Entries.{entry_of};
 
 use book::check;
@@ -19,7 +19,7 @@ pub struct Entry {
 
 // The book's own refusal, 1 to 7, then 8 where there is less room than the contents need, or 0.
 pub(crate) fn contents_answer(book: &[u8], room: usize) -> u8
-    ensures { result ≡ contentsAnswer book.now room }
+    ensures { result ≡ contents_answer book.now room }
 {
     let own = check(book);
     if own != 0 {
@@ -33,7 +33,7 @@ pub(crate) fn contents_answer(book: &[u8], room: usize) -> u8
 
 // How many entries are filled: none where the call is refused.
 pub(crate) fn entries_filled(book: &[u8], answer: u8) -> usize
-    ensures { result ≡ done answer (headIn book.now).piles 0 }
+    ensures { result ≡ done answer (head_in book.now).piles 0 }
 {
     if answer != 0 {
         return 0;
@@ -44,7 +44,7 @@ pub(crate) fn entries_filled(book: &[u8], answer: u8) -> usize
 // Entry k of a book's contents.
 pub(crate) fn entry_at(book: &[u8], k: usize) -> Entry
     requires { k < 256 }
-    ensures { result ≡ entry_of (pileNumber book.now k) (position book.now k) }
+    ensures { result ≡ entry_of (pile_number book.now k) (position book.now k) }
 {
     Entry {
         number: pile_number(book, k as u8),
@@ -54,8 +54,8 @@ pub(crate) fn entry_at(book: &[u8], k: usize) -> Entry
 
 // The contents of a book, in its order; refused with 1 to 7 or, where the list is shorter than the contents, 8. Entries past the contents stay, and all of a refused call.
 pub fn contents(book: &[u8], entries: &mut [Entry]) -> u8
-    ensures answer { result ≡ contentsAnswer book.now (length entries.old) }
-    ensures entries { entries.new ≡ afterContents entry_of book.now entries.old }
+    ensures answer { result ≡ contents_answer book.now (length entries.old) }
+    ensures entries { entries.new ≡ after_contents entry_of book.now entries.old }
 {
     let answer = contents_answer(book, entries.len());
     let filled = entries_filled(book, answer);

@@ -46,8 +46,8 @@ use Rattle.lent_vectors.proofs.OnLocal as L
 use Rattle.lent_vectors.proofs.OnLocal.{machine, ref_ty, Sound, read_as}
 
 -- the locals after the numbers: the record that is lent, the answer, the reference, and a copy of the record
-abbrev lent-local : List Width → ℕ
-lent-local ws = suc (suc (N.past ws 0))
+abbrev lent_local : List Width → ℕ
+lent_local ws = suc (suc (N.past ws 0))
 
 abbrev answered : List Width → ℕ
 answered ws = suc (suc (N.past ws 1))
@@ -64,10 +64,10 @@ code_of key ws = record {
   outlives = [];
   params = suc (N.past ws 0);
   locals = local O'.mir value_local ∷ local P'.mir value_local ∷ N.locals ws (local P'.mir memory_slot ∷ local (ty_int w8) value_local ∷ local ref_ty value_local ∷ local P'.mir value_local ∷ []);
-  body = seq (assign (place (lent-local ws) []) (rv_opd (copy (place 1 []))))
-      (seq (assign (place (referred ws) []) (addr_of (place (lent-local ws) [])))
+  body = seq (assign (place (lent_local ws) []) (rv_opd (copy (place 1 []))))
+      (seq (assign (place (referred ws) []) (addr_of (place (lent_local ws) [])))
       (seq (call key (copy (place (referred ws) []) ∷ N.operands (λ j. suc (suc j)) ws) (place (answered ws) []))
-      (seq (assign (place (copied ws) []) (rv_opd (copy (place (lent-local ws) []))))
+      (seq (assign (place (copied ws) []) (rv_opd (copy (place (lent_local ws) []))))
       (seq (assign (place 0 []) (aggregate (copy (place (answered ws) []) ∷ copy (place (copied ws) []) ∷ []))) return))));
 }
 
@@ -75,11 +75,11 @@ code_of key ws = record {
 abbrev handed : ℕ → Pile → Outcome
 handed x p = record { answer = x; pile = p }
 
-abbrev handed-val : ℕ → Pile → Val
-handed-val x p = vstruct (of_list (vint w8 x ∷ machine p ∷ []))
+abbrev handed_val : ℕ → Pile → Val
+handed_val x p = vstruct (of_list (vint w8 x ∷ machine p ∷ []))
 
-handed-is : (x : ℕ) (p : Pile) → Is u8 x (vint w8 x ∷ []) → Sound p → Is O.the_row (handed x p) (handed-val x p ∷ [])
-handed-is x p is sound = LL.owes O.the_type O'.the_laws (handed x p) (is, (sound, tt))
+handed_is : (x : ℕ) (p : Pile) → Is u8 x (vint w8 x ∷ []) → Sound p → Is O.the_row (handed x p) (handed_val x p ∷ [])
+handed_is x p is sound = LL.owes O.the_type O'.the_laws (handed x p) (is, (sound, tt))
 
 module _ (ws : List Width) (of : act.Act ws) where
   abbrev stayed : Stays (act.valued ws of).signature.params (act.valued ws of).kept
@@ -94,22 +94,22 @@ module _ (ws : List Width) (of : act.Act ws) where
     abbrev vals : List Val × Valss (types_at (N.slots 0 ws) tt)
     vals = (machine p ∷ [], N.values 0 tt ws ns)
 
-    abbrev bound : (walk_of 𝓛 (act.valued ws of) stayed (act.valued-clauses ws of 𝓤)).Ghost
+    abbrev bound : (walk_of 𝓛 (act.valued ws of) stayed (act.valued_clauses ws of 𝓤)).Ghost
     bound = ((tt, tt, tt, args, vals), tt)
 
     abbrev Post : Val → SProp 𝓤
-    Post = (walk_of 𝓛 (act.valued ws of) stayed (act.valued-clauses ws of 𝓤)).post bound
+    Post = (walk_of 𝓛 (act.valued ws of) stayed (act.valued_clauses ws of 𝓤)).post bound
 
     -- nothing is said of the parameters
     abbrev ends : Lasts (act.valued ws of) tt args
     ends = (tt, N.lasts 0 tt ws ns)
 
-    exits : (x : ℕ) (p' : Pile) → Is u8 x (vint w8 x ∷ []) → Sound p' → L.Answers ws of ns p x → L.Leaves ws of ns p p' → ent 𝓤 (emp 𝓤) (Post (handed-val x p'))
+    exits : (x : ℕ) (p' : Pile) → Is u8 x (vint w8 x ∷ []) → Sound p' → L.Answers ws of ns p x → L.Leaves ws of ns p p' → ent 𝓤 (emp 𝓤) (Post (handed_val x p'))
     exits x p' is sound' answers leaves =
         qed 𝓛 [] ∵
-        suffices ! _ (ends_at 𝓛 (act.valued ws of) stayed (act.valued-clauses ws of 𝓤) bound (handed-val x p') (handed x p') ends (tt, N.lasts_fit 0 tt ws ns)) $
-        suffices ! _ (assoc∗ 𝓤 (on_exit 𝓛 (act.valued ws of) stayed tt tt vals (handed-val x p') (handed x p') args ends) (fact 𝓤 (L.Answers ws of ns p x)) (fact 𝓤 (L.Leaves ws of ns p p'))) $
-        says ! leaves $ says ! answers $ owned ! O.the_row (Is O.the_row) (LL.makes O.the_type O'.the_plain 𝓛) (handed x p') _ (handed-is x p' is sound') $
+        suffices ! _ (ends_at 𝓛 (act.valued ws of) stayed (act.valued_clauses ws of 𝓤) bound (handed_val x p') (handed x p') ends (tt, N.lasts_fit 0 tt ws ns)) $
+        suffices ! _ (assoc∗ 𝓤 (on_exit 𝓛 (act.valued ws of) stayed tt tt vals (handed_val x p') (handed x p') args ends) (fact 𝓤 (L.Answers ws of ns p x)) (fact 𝓤 (L.Leaves ws of ns p p'))) $
+        says ! leaves $ says ! answers $ owned ! O.the_row (Is O.the_row) (LL.makes O.the_type O'.the_plain 𝓛) (handed x p') _ (handed_is x p' is sound') $
         use0 𝓛 (‵ (has_of tt (N.slots 0 ws) (all yes (N.slots 0 ws)) (N.dropped 0 ws) ns (N.lasts 0 tt ws ns) vals.1)) (N.left 𝓛 0 tt ws ns) $ nothing ! $ fjoin ! $ nothing ! $ done !
 
     -- the locals
@@ -117,7 +117,7 @@ module _ (ws : List Width) (of : act.Act ws) where
     last l₂ l₃ l₄ l₅ = (P'.mir, l₂) ∷ (ty_int w8, l₃) ∷ (ref_ty, l₄) ∷ (P'.mir, l₅) ∷ []
 
     abbrev env : ℕ → ℕ → N.Blocks ws → ℕ → ℕ → ℕ → ℕ → Env 𝓤 H
-    env l₀ l₁ bs l₂ l₃ l₄ l₅ = (O'.mir, l₀) ∷ (P'.mir, l₁) ∷ N.envOf 𝓤 H ws bs (last l₂ l₃ l₄ l₅)
+    env l₀ l₁ bs l₂ l₃ l₄ l₅ = (O'.mir, l₀) ∷ (P'.mir, l₁) ∷ N.env_of 𝓤 H ws bs (last l₂ l₃ l₄ l₅)
 
     module _ (key : Name) (C : Calls 𝓤 H) (Λ : Loops 𝓤 H) (fm : FmC 𝓤 H 𝓛.laws C) (known : Triple 𝓤 (C key) (L.Lent ws of 𝓛)) where
       walk : ent 𝓤 (on_entry 𝓛 (act.valued ws of).signature tt tt args vals) (WpFn 𝓤 H C Λ (code_of key ws) (machine p ∷ N.row 0 tt ws ns) Post)
@@ -128,13 +128,13 @@ module _ (ws : List Width) (of : act.Act ws) where
           -- [the numbers; room for the copy; …; room for the reference; …; room for the answer; …; room for the record that is lent; …; _1; …; room for _0; …]
           assigns ! (of_opd ! (load ! (from ! (stop !)) (look ! 9 refl))) (N.found ! (N.spot_past 𝓤 H ws bs (last l₂ l₃ l₄ l₅) 0) (stop !)) (init ! 7 refl ((LL.lawful P.the_type P'.the_laws 𝓛).typed p _ sound).0) $
           move ! (7 ∷ 5 ∷ 3 ∷ []) $
-          L.acts-on ws of 𝓛 C Λ fm key known (env l₀ l₁ bs l₂ l₃ l₄ l₅) (lent-local ws) (answered ws) (referred ws) l₂ l₃ l₄ (N.spot_past 𝓤 H ws bs (last l₂ l₃ l₄ l₅) 0) (N.spot_past 𝓤 H ws bs (last l₂ l₃ l₄ l₅) 1) (N.spot_past 𝓤 H ws bs (last l₂ l₃ l₄ l₅) 2)
+          L.acts_on ws of 𝓛 C Λ fm key known (env l₀ l₁ bs l₂ l₃ l₄ l₅) (lent_local ws) (answered ws) (referred ws) l₂ l₃ l₄ (N.spot_past 𝓤 H ws bs (last l₂ l₃ l₄ l₅) 0) (N.spot_past 𝓤 H ws bs (last l₂ l₃ l₄ l₅) 1) (N.spot_past 𝓤 H ws bs (last l₂ l₃ l₄ l₅) 2)
           p sound ns fit (at_ret (env l₀ l₁ bs l₂ l₃ l₄ l₅) Post) _ (N.operands (λ j. suc (suc j)) ws) _
           (λ i₀ i₁ i₂ i₃. N.read_at ! 4 (read_as ! (ap (N.row 0 tt ws) (as_is ws ns)) (N.read_all 0 tt ! ws bs ns (env l₀ l₁ bs l₂ l₃ l₄ l₅) (last l₂ l₃ l₄ l₅) (λ j. suc (suc j)) (λ j. refl)))) (λ p' x sound' is answers leaves.
           -- [the record that was lent; the answer; the reference; the numbers; room for the copy; …; _1; …; room for _0; …]
           assigns ! (of_opd ! (load ! (N.found ! (N.spot_past 𝓤 H ws bs (last l₂ l₃ l₄ l₅) 0) (stop !)) (look ! 0 refl))) (N.found ! (N.spot_past 𝓤 H ws bs (last l₂ l₃ l₄ l₅) 3) (stop !)) (init ! 4 refl ((LL.lawful P.the_type P'.the_laws 𝓛).typed p' _ sound').0) $
           assigns ! (agg ! (and_then ! (load ! (N.found ! (N.spot_past 𝓤 H ws bs (last l₂ l₃ l₄ l₅) 1) (stop !)) (look ! 1 refl)) (and_then ! (load ! (N.found ! (N.spot_past 𝓤 H ws bs (last l₂ l₃ l₄ l₅) 3) (stop !)) (look ! 4 refl)) (no_more !))))
-          (from ! (stop !)) (init ! 11 refl ((LL.lawful O.the_type O'.the_laws 𝓛).typed (handed x p') _ (handed-is x p' is sound')).0) $
+          (from ! (stop !)) (init ! 11 refl ((LL.lawful O.the_type O'.the_laws 𝓛).typed (handed x p') _ (handed_is x p' is sound')).0) $
           returns ! (look ! 11 refl) $ forget ! 0 refl $ forget ! 1 refl $ forget ! 2 refl $ forget ! 4 refl $ forget ! 9 refl $ forget ! 11 refl $
           move ! (11 ∷ 12 ∷ []) $ free1 ! $ move ! (9 ∷ 10 ∷ []) $ free1 ! $ move ! (3 ∷ []) $ N.free_all 0 tt ! ws bs ns (last l₂ l₃ l₄ l₅) $
           move ! (0 ∷ 7 ∷ []) $ free1 ! $ move ! (0 ∷ 5 ∷ []) $ free1 ! $ move ! (0 ∷ 3 ∷ []) $ free1 ! $ free1 ! $ free0 ! $ by ! (exits x p' is sound' answers leaves)))))))))
@@ -142,20 +142,20 @@ module _ (ws : List Width) (of : act.Act ws) where
   module _ {M : Type 1} {𝓤 : Ura M} (𝓛 : Logic 𝓤) (key : Name) where
     open 𝓛 use {H}
 
-    walks : (C : Calls 𝓤 H) (Λ : Loops 𝓤 H) → FmC 𝓤 H 𝓛.laws C → Triple 𝓤 (C key) (L.Lent ws of 𝓛) → Walks 𝓛 (act.valued ws of) stayed (WpFn 𝓤 H C Λ (code_of key ws)) (act.valued-clauses ws of 𝓤)
-    walks C Λ fm known = walked 𝓛 (act.valued ws of) stayed (act.valued-clauses ws of 𝓤) (WpFn 𝓤 H C Λ (code_of key ws)) (λ κs. (LL.vals P.the_type P'.the_laws, N.spelled 0 tt ws)) (λ κs. (LL.tells P.the_type P'.the_laws, N.told 0 tt ws))
+    walks : (C : Calls 𝓤 H) (Λ : Loops 𝓤 H) → FmC 𝓤 H 𝓛.laws C → Triple 𝓤 (C key) (L.Lent ws of 𝓛) → Walks 𝓛 (act.valued ws of) stayed (WpFn 𝓤 H C Λ (code_of key ws)) (act.valued_clauses ws of 𝓤)
+    walks C Λ fm known = walked 𝓛 (act.valued ws of) stayed (act.valued_clauses ws of 𝓤) (WpFn 𝓤 H C Λ (code_of key ws)) (λ κs. (LL.vals P.the_type P'.the_laws, N.spelled 0 tt ws)) (λ κs. (LL.tells P.the_type P'.the_laws, N.told 0 tt ws))
         (λ κs qs bounds a g are. via 𝓤 _ (fst∗ 𝓤 _ (emp 𝓤)) (walk 𝓛 a.0 are.0 a.1 are.1 key C Λ fm known))
 
-    meets : (𝓣 : Tables 𝓤 H) → Triple 𝓤 (𝓣.C key) (L.Lent ws of 𝓛) → Meets 𝓛 (act.valued ws of).signature (WpFn 𝓤 H 𝓣.C 𝓣.Λ (code_of key ws)) (closing 𝓛 (act.valued ws of) (act.valued-clauses ws of 𝓤))
+    meets : (𝓣 : Tables 𝓤 H) → Triple 𝓤 (𝓣.C key) (L.Lent ws of 𝓛) → Meets 𝓛 (act.valued ws of).signature (WpFn 𝓤 H 𝓣.C 𝓣.Λ (code_of key ws)) (closing 𝓛 (act.valued ws of) (act.valued_clauses ws of 𝓤))
     meets 𝓣 known =
-        walk_Meets 𝓛 (act.valued ws of) stayed (Goes-dropped 𝓛 0 (plain (λ _. P.the_row)) yes (λ κs x f. refl), N.all_go 𝓛 0 ws) (act.valued-clauses ws of 𝓤) (WpFn 𝓤 H 𝓣.C 𝓣.Λ (code_of key ws))
+        walk_Meets 𝓛 (act.valued ws of) stayed (Goes-dropped 𝓛 0 (plain (λ _. P.the_row)) yes (λ κs x f. refl), N.all_go 𝓛 0 ws) (act.valued_clauses ws of 𝓤) (WpFn 𝓤 H 𝓣.C 𝓣.Λ (code_of key ws))
         (WpFn-mono 𝓤 H 𝓛.laws 𝓣 (code_of key ws)) (walks 𝓣.C 𝓣.Λ (fm_of 𝓤 H 𝓛.laws 𝓣) known)
 
   -- in an environment where `own` runs this code and `key` the act on a lent record
-  pub handed-meets : {M : Type 1} {𝓤 : Ura M} (𝓛 : Logic 𝓤) (𝓜 : Model 𝓤 𝓛.H) (𝓡 : Running 𝓤 𝓛.H 𝓜) (γ : Routines) (own key : Name) (callee : Routine)
+  pub handed_meets : {M : Type 1} {𝓤 : Ura M} (𝓛 : Logic 𝓤) (𝓜 : Model 𝓤 𝓛.H) (𝓡 : Running 𝓤 𝓛.H 𝓜) (γ : Routines) (own key : Name) (callee : Routine)
       → Closed 𝓤 𝓛.H (tables 𝓤 𝓛.H 𝓜 𝓡 γ).C (tables 𝓤 𝓛.H 𝓜 𝓡 γ).Λ own (code_of key ws) → γ key ≡ callee → Triple 𝓤 (𝓡.run callee) (L.Lent ws of 𝓛)
-      → Meets 𝓛 (act.valued ws of).signature (𝓡.run (γ own)) (closing 𝓛 (act.valued ws of) (act.valued-clauses ws of 𝓤))
+      → Meets 𝓛 (act.valued ws of).signature (𝓡.run (γ own)) (closing 𝓛 (act.valued ws of) (act.valued_clauses ws of 𝓤))
   unfolding tables_of
-  handed-meets {𝓤 = 𝓤} 𝓛 𝓜 𝓡 γ own key callee closed is met =
+  handed_meets {𝓤 = 𝓤} 𝓛 𝓜 𝓡 γ own key callee closed is met =
       entered 𝓤 𝓛.H (act.Valued ws of 𝓤 𝓛) (tables 𝓤 𝓛.H 𝓜 𝓡 γ).C (tables 𝓤 𝓛.H 𝓜 𝓡 γ).Λ own (code_of key ws) closed
       (meets 𝓛 key (tables_of 𝓤 𝓛.H 𝓜 (tables 𝓤 𝓛.H 𝓜 𝓡 γ)) (cited 𝓤 𝓛.H (L.Lent ws of 𝓛) 𝓜 𝓡 γ key callee is met))

@@ -33,14 +33,14 @@ use denote.Triple.Statement.{Contract, Triple}
 use denote.Triple.Call.{calls_at}
 use denote.Triple.Spec.{triple_of}
 use denote.Triple.Clauses.{Lasts, lasts, ensured}
-use Rattle.rules.specs.Record.{recordActAnswer, recordAfterAct}
-use Rattle.pile.specs.View.{asRecord}
+use Rattle.rules.specs.Record.{record_act_answer, record_after_act}
+use Rattle.pile.specs.View.{as_record}
 use Rattle.pile.specs.declared.Pile.{Pile}
 use Rattle.pile.specs.contracts.Pile as P
 use Rattle.pile.proofs.Pile.TheLaws as P'
 use Rattle.lent.proofs.Numbers as N
 use Rattle.lent.proofs.LentAct as act
-use Rattle.lent_vectors.proofs.Passing.{passing, passing-fit, passing-row, passing-back}
+use Rattle.lent_vectors.proofs.Passing.{passing, passing_fit, passing_row, passing_back}
 
 -- a record's machine value, and the type of a reference that is made in a body
 abbrev pub machine : Pile → Val
@@ -59,10 +59,10 @@ read_as {𝓛 = 𝓛} {K = K} {Γ = Γ} {E = E} {xs = xs} t e os = subst (λ (ws
 
 module _ (ws : List Width) (of : act.Act ws) where
   abbrev pub Answers : N.Numbers 0 tt ws → Pile → ℕ → Type 0
-  Answers ns p x = x ≡ recordActAnswer (of ns).0 (of ns).1 (of ns).2 (asRecord p)
+  Answers ns p x = x ≡ record_act_answer (of ns).0 (of ns).1 (of ns).2 (as_record p)
 
   abbrev pub Leaves : N.Numbers 0 tt ws → Pile → Pile → Type 0
-  Leaves ns p p' = asRecord p' ≡ recordAfterAct (of ns).0 (of ns).1 (of ns).2 (asRecord p)
+  Leaves ns p p' = as_record p' ≡ record_after_act (of ns).0 (of ns).1 (of ns).2 (as_record p)
 
   module _ {M : Type 1} {𝓤 : Ura M} (𝓛 : Logic 𝓤) where
     -- the contract of the act on a lent record
@@ -87,18 +87,18 @@ module _ (ws : List Width) (of : act.Act ws) where
       hands : (α : ℕ) (δ : GName) → ent 𝓤 (sep 𝓤 (A.lft (α ∷ []) full_share) (sem 𝓛 ((MutRef (named 0) (α ∷ []) P.the_row).own_val (lent_ref δ p) (vptr l 0 ∷ [])))) (Lent.pre (at_call α δ))
       hands α δ =
           qed 𝓛 (‵ (flft (α ∷ []) full_share) ∷ ‵ ((MutRef (named 0) (α ∷ []) P.the_row).own_val (lent_ref δ p) (vptr l 0 ∷ [])) ∷ []) ∵
-          use0 𝓛 (‵ (owns (types_at (N.slots 1 ws) (α ∷ [], tt)) (passing (α ∷ [], tt) ws ns) (N.values 1 (α ∷ [], tt) ws (passing (α ∷ [], tt) ws ns)))) (N.had 𝓛 1 (α ∷ [], tt) ws (passing (α ∷ [], tt) ws ns) (passing-fit (α ∷ [], tt) ws ns fit)) $
+          use0 𝓛 (‵ (owns (types_at (N.slots 1 ws) (α ∷ [], tt)) (passing (α ∷ [], tt) ws ns) (N.values 1 (α ∷ [], tt) ws (passing (α ∷ [], tt) ws ns)))) (N.had 𝓛 1 (α ∷ [], tt) ws (passing (α ∷ [], tt) ws ns) (passing_fit (α ∷ [], tt) ws ns fit)) $
           move ! (2 ∷ 0 ∷ []) $ fjoin ! $ nothing ! $ move ! (2 ∷ 0 ∷ []) $ join ! $ join ! $ frame ! $ nothing ! $ done !
 
       -- the rest of the body, from what the call leaves: own's cell, the answer's, the reference's, and what it did not touch
-      pub acts-on : (q : Post 𝓤 H) (rest : Code) (xs : List Operand) (Δ : List (Item 𝓤))
+      pub acts_on : (q : Post 𝓤 H) (rest : Code) (xs : List Operand) (Δ : List (Item 𝓤))
           → ((i₀ i₁ i₂ i₃ : Item 𝓤) → Opds (Go {0}) 𝓛 (i₀ ∷ i₁ ∷ i₂ ∷ i₃ ∷ Δ) E xs (N.row 0 tt ws ns))
           → ((p' : Pile) (x : ℕ) → Sound p' → Is u8 x (vint w8 x ∷ []) → Answers ns p x → Leaves ns p p'
           → Sq 𝓛 (‵ (fat full_share P'.mir l 0 (machine p')) ∷ ‵ (fat full_share (ty_int w8) a 0 (vint w8 x)) ∷ ‵ (fat full_share ref_ty r 0 (vptr l 0)) ∷ Δ) (runs C Λ E rest q))
           → Sq 𝓛 (‵ (fat full_share P'.mir l 0 (machine p)) ∷ ‵ (froom (ty_int w8) a 0) ∷ ‵ (froom ref_ty r 0) ∷ Δ)
           (runs C Λ E (seq (assign (place ref []) (addr_of (place own []))) (seq (call key (copy (place ref []) ∷ xs) (place answer [])) rest)) q)
       unfolding part_of
-      acts-on q rest xs Δ reads k =
+      acts_on q rest xs Δ reads k =
           assigns ! (addr ! (N.found ! own-at (stop !))) (N.found ! ref-at (stop !)) (init ! 2 refl (tt, tt)) $
           -- the record lies in the local, and is lent
           use1 𝓛 (‵ (cell_at full_share (P.the_row).mir (machine p ∷ []) l 0)) (𝓛.laws.at_raw full_share P'.mir l 0 (machine p)) $
@@ -108,8 +108,8 @@ module _ (ws : List Width) (of : act.Act ws) where
           use1 𝓛 (later (some (λ (δ : GName). ‵ ((MutRef (named 0) (α ∷ []) P.the_row).own_val (lent_ref δ p) (vptr l 0 ∷ [])) ⊛ ‵ (flent (α ∷ []) (Body (mem P.the_row) l 0 δ))))) (lends_ref 𝓛 P.the_row (named 0) (α ∷ []) p l 0) $
           await ! tt $ pick ! (λ δ. split ! $ move ! (2 ∷ 0 ∷ []) $ use2 𝓛 (raw (Lent.pre (at_call α δ))) (hands α δ) $
           -- [what the callee asks; the lender's part; room for the answer; the reference; …]
-          calls_at ! fm Lent known (at_call α δ) (and_then ! (load ! (N.found ! ref-at (stop !)) (look ! 3 refl)) (read_as ! (passing-row (α ∷ [], tt) ws ns) (reads _ _ _ _))) (λ v.
-          use1 𝓛 (later (some (λ (x : ℕ). ((‵ (flft (α ∷ []) full_share) ⊛ ‵ ftrue) ⊛ ‵ (u8.own_val x (v ∷ []))) ⊛ raw (ensured 𝓛 (act.lent ws of) (act.lent-clauses ws of 𝓤) (α ∷ [], tt) (args α δ) tt x)))) (id⊢ 𝓤 _) $ await ! tt $ pick ! (λ x. split ! $ move ! (1 ∷ []) $
+          calls_at ! fm Lent known (at_call α δ) (and_then ! (load ! (N.found ! ref-at (stop !)) (look ! 3 refl)) (read_as ! (passing_row (α ∷ [], tt) ws ns) (reads _ _ _ _))) (λ v.
+          use1 𝓛 (later (some (λ (x : ℕ). ((‵ (flft (α ∷ []) full_share) ⊛ ‵ ftrue) ⊛ ‵ (u8.own_val x (v ∷ []))) ⊛ raw (ensured 𝓛 (act.lent ws of) (act.lent_clauses ws of 𝓤) (α ∷ [], tt) (args α δ) tt x)))) (id⊢ 𝓤 _) $ await ! tt $ pick ! (λ x. split ! $ move ! (1 ∷ []) $
           use1 𝓛 (some (λ (zs : Lasts (act.lent ws of) (α ∷ [], tt) (args α δ)). ‵ (lasts (act.lent ws of) (α ∷ [], tt) (args α δ) zs) ⊛ (raw (fact 𝓤 (Answers (N.as_passed 1 (α ∷ [], tt) ws (passing (α ∷ [], tt) ws ns)) p x)) ⊛ raw (fact 𝓤 (Leaves (N.as_passed 1 (α ∷ [], tt) ws (passing (α ∷ [], tt) ws ns)) p zs.0))))) (id⊢ 𝓤 _) $
           pick ! (λ zs. split ! $ move ! (1 ∷ []) $ split ! $ heard ! (Answers (N.as_passed 1 (α ∷ [], tt) ws (passing (α ∷ [], tt) ws ns)) p x) (λ answers. heard ! (Leaves (N.as_passed 1 (α ∷ [], tt) ws (passing (α ∷ [], tt) ws ns)) p zs.0) (λ leaves.
           fsplit ! $ move ! (1 ∷ []) $ drop ! $ move ! (1 ∷ []) $ split ! $ move ! (1 ∷ []) $ facts ! u8 (Is u8) (shows 𝓛 u8) x (v ∷ []) (λ is.
@@ -120,4 +120,4 @@ module _ (ws : List Width) (of : act.Act ws) where
           fpick ! (λ vs. fsplit ! $ spelt ! P.the_row (Is P.the_row) (shows 𝓛 P.the_row) (LL.vals P.the_type P'.the_laws) (LL.tells P.the_type P'.the_laws) full_share zs.0 vs l 0 $
           move ! (1 ∷ []) $ facts ! P.the_row (Is P.the_row) (shows 𝓛 P.the_row) zs.0 (machine zs.0 ∷ []) (λ sound'.
           use1 𝓛 (‵ (fat full_share P'.mir l 0 (machine zs.0))) (𝓛.laws.raw_at full_share P'.mir l 0 (machine zs.0)) $ move ! (1 ∷ []) $ drop ! $
-          k zs.0 x sound' (refl, is.1) (subst (λ (ms : N.Numbers 0 tt ws). Answers ms p x) (passing-back (α ∷ [], tt) ws ns) answers) (subst (λ (ms : N.Numbers 0 tt ws). Leaves ms p zs.0) (passing-back (α ∷ [], tt) ws ns) leaves)))))))))))
+          k zs.0 x sound' (refl, is.1) (subst (λ (ms : N.Numbers 0 tt ws). Answers ms p x) (passing_back (α ∷ [], tt) ws ns) answers) (subst (λ (ms : N.Numbers 0 tt ws). Leaves ms p zs.0) (passing_back (α ∷ [], tt) ws ns) leaves)))))))))))

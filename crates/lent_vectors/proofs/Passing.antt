@@ -12,18 +12,18 @@ module _ (κs : Lfts 1) where
   passing [] ns = tt
   passing (w ∷ ws) ns = (ns.0, passing ws ns.1)
 
-  pub passing-fit : (ws : List Width) (ns : N.Numbers 0 tt ws) → N.Fit 0 tt ws ns → N.Fit 1 κs ws (passing ws ns)
-  passing-fit [] ns f = tt
-  passing-fit (w ∷ ws) ns f = (f.0, passing-fit ws ns.1 f.1)
+  pub passing_fit : (ws : List Width) (ns : N.Numbers 0 tt ws) → N.Fit 0 tt ws ns → N.Fit 1 κs ws (passing ws ns)
+  passing_fit [] ns f = tt
+  passing_fit (w ∷ ws) ns f = (f.0, passing_fit ws ns.1 f.1)
 
-  pub passing-row : (ws : List Width) (ns : N.Numbers 0 tt ws) → N.row 0 tt ws ns ≡ N.row 1 κs ws (passing ws ns)
-  passing-row [] ns = refl
-  passing-row (w ∷ ws) ns = λ i. vint w ns.0 ∷ passing-row ws ns.1 i
+  pub passing_row : (ws : List Width) (ns : N.Numbers 0 tt ws) → N.row 0 tt ws ns ≡ N.row 1 κs ws (passing ws ns)
+  passing_row [] ns = refl
+  passing_row (w ∷ ws) ns = λ i. vint w ns.0 ∷ passing_row ws ns.1 i
 
   -- and back
-  pub passing-back : (ws : List Width) (ns : N.Numbers 0 tt ws) → N.as_passed 1 κs ws (passing ws ns) ≡ ns
-  passing-back [] ns = refl
-  passing-back (w ∷ ws) ns = λ i. (ns.0, passing-back ws ns.1 i)
+  pub passing_back : (ws : List Width) (ns : N.Numbers 0 tt ws) → N.as_passed 1 κs ws (passing ws ns) ≡ ns
+  passing_back [] ns = refl
+  passing_back (w ∷ ws) ns = λ i. (ns.0, passing_back ws ns.1 i)
 
 pub as_is : (ws : List Width) (ns : N.Numbers 0 tt ws) → N.as_passed 0 tt ws ns ≡ ns
 as_is [] ns = refl

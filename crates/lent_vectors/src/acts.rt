@@ -2,16 +2,16 @@
 ghost use Rattle.std.specs.Prelude.{◌≡◌};
 ghost use Rattle.rules.specs.Pile as side;
 ghost use Rattle.rules.specs.Acts.{spend, give};
-ghost use Rattle.rules.specs.Record.{recordActAnswer, recordAfterAct};
-ghost use Rattle.pile.specs.View.{asRecord};
-ghost use Rattle.lent_vectors.specs.Worked.{afterWorked};
+ghost use Rattle.rules.specs.Record.{record_act_answer, record_after_act};
+ghost use Rattle.pile.specs.View.{as_record};
+ghost use Rattle.lent_vectors.specs.Worked.{after_worked};
 
 use lent::{draw, give_draw, give_tip, tip};
 use pile::{Outcome, Pile};
 
 pub(crate) fn tipped(start: Pile, desk: u8, amount: u32) -> Outcome
-    ensures answer { result.answer ≡ recordActAnswer desk (spend side.tip) amount (asRecord start) }
-    ensures pile { asRecord result.pile ≡ recordAfterAct desk (spend side.tip) amount (asRecord start) }
+    ensures answer { result.answer ≡ record_act_answer desk (spend side.tip) amount (as_record start) }
+    ensures pile { as_record result.pile ≡ record_after_act desk (spend side.tip) amount (as_record start) }
 {
     let mut own = start;
     let answer = tip(&mut own, desk, amount);
@@ -19,8 +19,8 @@ pub(crate) fn tipped(start: Pile, desk: u8, amount: u32) -> Outcome
 }
 
 pub(crate) fn drawn(start: Pile, desk: u8, amount: u32) -> Outcome
-    ensures answer { result.answer ≡ recordActAnswer desk (spend side.draw) amount (asRecord start) }
-    ensures pile { asRecord result.pile ≡ recordAfterAct desk (spend side.draw) amount (asRecord start) }
+    ensures answer { result.answer ≡ record_act_answer desk (spend side.draw) amount (as_record start) }
+    ensures pile { as_record result.pile ≡ record_after_act desk (spend side.draw) amount (as_record start) }
 {
     let mut own = start;
     let answer = draw(&mut own, desk, amount);
@@ -28,8 +28,8 @@ pub(crate) fn drawn(start: Pile, desk: u8, amount: u32) -> Outcome
 }
 
 pub(crate) fn draw_given(start: Pile, desk: u8, receiver: u8, amount: u32) -> Outcome
-    ensures answer { result.answer ≡ recordActAnswer desk (give side.draw receiver) amount (asRecord start) }
-    ensures pile { asRecord result.pile ≡ recordAfterAct desk (give side.draw receiver) amount (asRecord start) }
+    ensures answer { result.answer ≡ record_act_answer desk (give side.draw receiver) amount (as_record start) }
+    ensures pile { as_record result.pile ≡ record_after_act desk (give side.draw receiver) amount (as_record start) }
 {
     let mut own = start;
     let answer = give_draw(&mut own, desk, receiver, amount);
@@ -37,8 +37,8 @@ pub(crate) fn draw_given(start: Pile, desk: u8, receiver: u8, amount: u32) -> Ou
 }
 
 pub(crate) fn tip_given(start: Pile, desk: u8, receiver: u8, amount: u32) -> Outcome
-    ensures answer { result.answer ≡ recordActAnswer desk (give side.tip receiver) amount (asRecord start) }
-    ensures pile { asRecord result.pile ≡ recordAfterAct desk (give side.tip receiver) amount (asRecord start) }
+    ensures answer { result.answer ≡ record_act_answer desk (give side.tip receiver) amount (as_record start) }
+    ensures pile { as_record result.pile ≡ record_after_act desk (give side.tip receiver) amount (as_record start) }
 {
     let mut own = start;
     let answer = give_tip(&mut own, desk, receiver, amount);
@@ -47,7 +47,7 @@ pub(crate) fn tip_given(start: Pile, desk: u8, receiver: u8, amount: u32) -> Out
 
 // The worked book's seven acts, on one record that is lent for each in turn.
 pub(crate) fn worked(start: Pile) -> Pile
-    ensures { asRecord result ≡ afterWorked (asRecord start) }
+    ensures { as_record result ≡ after_worked (as_record start) }
 {
     let mut own = start;
     tip(&mut own, 0, 30);

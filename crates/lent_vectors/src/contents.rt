@@ -1,6 +1,6 @@
 // The contents of a book, filled into a local list of entries that is lent and handed back.
 ghost use Rattle.std.specs.Prelude.{◌≡◌};
-ghost use Rattle.rules.specs.Book.{contentsAnswer, afterContents};
+ghost use Rattle.rules.specs.Book.{contents_answer, after_contents};
 ghost use Rattle.lent.specs.Entries.{entry_of};
 
 use lent::{Entry, contents};
@@ -20,8 +20,8 @@ pub(crate) struct Short {
 }
 
 pub(crate) fn filled(book: &[u8], start: [Entry; 34]) -> Listing
-    ensures answer { result.answer ≡ contentsAnswer book.now 34 }
-    ensures entries { result.entries ≡ afterContents entry_of book.now start }
+    ensures answer { result.answer ≡ contents_answer book.now 34 }
+    ensures entries { result.entries ≡ after_contents entry_of book.now start }
 {
     let mut entries = start;
     let answer = contents(book, &mut entries);
@@ -29,8 +29,8 @@ pub(crate) fn filled(book: &[u8], start: [Entry; 34]) -> Listing
 }
 
 pub(crate) fn filled_short(book: &[u8], start: [Entry; 31]) -> Short
-    ensures answer { result.answer ≡ contentsAnswer book.now 31 }
-    ensures entries { result.entries ≡ afterContents entry_of book.now start }
+    ensures answer { result.answer ≡ contents_answer book.now 31 }
+    ensures entries { result.entries ≡ after_contents entry_of book.now start }
 {
     let mut entries = start;
     let answer = contents(book, &mut entries);

@@ -4,7 +4,7 @@
 mod lines;
 
 ghost use Rattle.std.specs.Prelude.{◌≤◌};
-ghost use Rattle.rules.specs.Layout.{deskLimit};
+ghost use Rattle.rules.specs.Layout.{desk_limit};
 
 use book::check;
 use bounds::{Bounded, bounds_in};
@@ -19,7 +19,7 @@ const BUFFER: usize = LONGEST_BOOK + 1;
 
 // The lines of n desks.
 fn list_desks(n: u8, found: Bounded)
-    requires { n ≤ deskLimit }
+    requires { n ≤ desk_limit }
 {
     let held = found.held;
     let draw = held.draw;
@@ -36,7 +36,7 @@ fn list_desks(n: u8, found: Bounded)
 
 // The lines of pile k, of a book of n desks: its account is made once, where its body stands, for the tonnage, all rights and all bounds.
 fn list_pile(book: &[u8], n: u8, k: u8)
-    requires { n ≤ deskLimit }
+    requires { n ≤ desk_limit }
 {
     let found = bounds_in(book, position(book, k) as usize, n);
     let held = found.held;

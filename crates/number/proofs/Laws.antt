@@ -10,7 +10,7 @@ use lib.Dec.{ltb}
 use lib.ListN.{length, get_or-eq_default}
 use lib.Seq.{sets}
 use Rattle.rules.specs.Refusals.{◌when◌, done}
-use Rattle.rules.specs.Numbers.{number, bytes, putAnswer, afterPut}
+use Rattle.rules.specs.Numbers.{number, bytes, put_answer, after_put}
 
 -- past the end of the bytes
 pub number_past : (w : ℕ) (b : List ℕ) (at : ℕ) → length b ≤ at → number w b at ≡ 0
@@ -19,23 +19,23 @@ number_past zero b at l = refl
 number_past (suc w) b at l = omega (arith, get_or-eq_default b 0 l, number_past w b (suc at) (omega arith))
 
 -- the halves
-two-more : (at : ℕ) → at + 2 ≡ suc (suc at)
-two-more at = omega arith
+two_more : (at : ℕ) → at + 2 ≡ suc (suc at)
+two_more at = omega arith
 
-pub number-halves : (b : List ℕ) (at : ℕ) → number 2 b at + 65536 * number 2 b (at + 2) ≡ number 4 b at
+pub number_halves : (b : List ℕ) (at : ℕ) → number 2 b at + 65536 * number 2 b (at + 2) ≡ number 4 b at
 unfolding number
-number-halves b at = rw (two-more at) (omega arith)
+number_halves b at = rw (two_more at) (omega arith)
 
-pub sets-halves : (b : List ℕ) (at x : ℕ) → sets (sets b at (bytes 2 x)) (at + 2) (bytes 2 (x / 65536)) ≡ sets b at (bytes 4 x)
+pub sets_halves : (b : List ℕ) (at x : ℕ) → sets (sets b at (bytes 2 x)) (at + 2) (bytes 2 (x / 65536)) ≡ sets b at (bytes 4 x)
 unfolding bytes
-sets-halves b at x = rw (two-more at, div-div-eq-div-mul x 256 256)
+sets_halves b at x = rw (two_more at, div-div-eq-div-mul x 256 256)
 
 -- a put that is refused, and one that is done
 module _ (w : ℕ) (b : List ℕ) (at x : ℕ) where
-  pub put_refused : ltb (length b) (at + w) ≡ true → (8 ≡ putAnswer w b at) × (b ≡ afterPut w b at x)
-  unfolding putAnswer afterPut ◌when◌ done
+  pub put_refused : ltb (length b) (at + w) ≡ true → (8 ≡ put_answer w b at) × (b ≡ after_put w b at x)
+  unfolding put_answer after_put ◌when◌ done
   put_refused e = rw e (refl, refl)
 
-  pub put-done : {s : List ℕ} → ltb (length b) (at + w) ≡ false → s ≡ sets b at (bytes w x) → (0 ≡ putAnswer w b at) × (s ≡ afterPut w b at x)
-  unfolding putAnswer afterPut ◌when◌ done
-  put-done e written = rw e (refl, written)
+  pub put_done : {s : List ℕ} → ltb (length b) (at + w) ≡ false → s ≡ sets b at (bytes w x) → (0 ≡ put_answer w b at) × (s ≡ after_put w b at x)
+  unfolding put_answer after_put ◌when◌ done
+  put_done e written = rw e (refl, written)

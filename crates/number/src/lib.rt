@@ -1,7 +1,7 @@
 // Numbers in a byte slice: unsigned, low byte first, 2 and 4 bytes wide.
 ghost use Rattle.std.specs.Prelude.{◌≡◌, ◌+◌, ◌*◌, ◌≤◌, ltb, length};
 ghost use Rattle.std.proofs.lemmas.List.Edits.{sets};
-ghost use Rattle.rules.specs.Numbers.{number, bytes, putAnswer, afterPut};
+ghost use Rattle.rules.specs.Numbers.{number, bytes, put_answer, after_put};
 
 // The answer of a put that has no room.
 const NO_ROOM: u8 = 8;
@@ -70,7 +70,7 @@ fn put_pair(s: &mut [u8], at: usize, x: u32)
 
 // Writes a number at a position, in 2 bytes and in 4, and returns 0. Where it runs past the end, returns 8 and writes nothing.
 pub fn put2(s: &mut [u8], at: usize, x: u16) -> u8
-    ensures { (result ≡ putAnswer 2 s.old at) × (s.new ≡ afterPut 2 s.old at x) }
+    ensures { (result ≡ put_answer 2 s.old at) × (s.new ≡ after_put 2 s.old at x) }
 {
     if short(s.len(), at, 2) {
         return NO_ROOM;
@@ -80,7 +80,7 @@ pub fn put2(s: &mut [u8], at: usize, x: u16) -> u8
 }
 
 pub fn put4(s: &mut [u8], at: usize, x: u32) -> u8
-    ensures { (result ≡ putAnswer 4 s.old at) × (s.new ≡ afterPut 4 s.old at x) }
+    ensures { (result ≡ put_answer 4 s.old at) × (s.new ≡ after_put 4 s.old at x) }
 {
     if short(s.len(), at, 4) {
         return NO_ROOM;

@@ -6,41 +6,41 @@ use native.Mathlib.Omega.{arith}
 use mathlib.Core.Path.{◌≡◌, ap, sym, ◌∙◌}
 use mathlib.Core.List.{List}
 use lib.ListN.{length, get_or}
-use Rattle.rules.specs.Layout.{deskLimit, pileLimit, Sizes}
+use Rattle.rules.specs.Layout.{desk_limit, pile_limit, Sizes}
 use Rattle.rules.specs.Opening.{given}
-use Rattle.rules.proofs.Loops.Ranges.{piece-within}
+use Rattle.rules.proofs.Loops.Ranges.{piece_within}
 use Rattle.opening.specs.Inner.{InList, Openings}
 
 -- a list of the right length has all its piles
-pub whole-list : {n p : ℕ} {l : List ℕ} → Sizes n p → length l ≡ p * (3 + 2 * n) → Openings n p l
-whole-list sizes long =
+pub whole_list : {n p : ℕ} {l : List ℕ} → Sizes n p → length l ≡ p * (3 + 2 * n) → Openings n p l
+whole_list sizes long =
     record {
-      desks-least = sizes.desks-least;
-      in_list = record { desks-most = sizes.desks-most; piles-most = sizes.piles-most; long = le_of_eq (sym long) };
+      desks_least = sizes.desks_least;
+      in_list = record { desks_most = sizes.desks_most; piles_most = sizes.piles_most; long = le_of_eq (sym long) };
     }
 
-pub pile-in-list : {n p k : ℕ} {l : List ℕ} → InList n p l → k < p → InList n (k + 1) l
-pile-in-list {n} all k<p =
-    record { desks-most = all.desks-most; piles-most = omega arith; long = omega (arith, piece-within (3 + 2 * n) k<p) }
+pub pile_in_list : {n p k : ℕ} {l : List ℕ} → InList n p l → k < p → InList n (k + 1) l
+pile_in_list {n} all k<p =
+    record { desks_most = all.desks_most; piles_most = omega arith; long = omega (arith, piece_within (3 + 2 * n) k<p) }
 
 -- places by how many numbers the list has for a pile, as code computes it
 module _ (n k : ℕ) {size : ℕ} (is : size ≡ 3 + 2 * n) where
   place_is : k * size ≡ k * (3 + 2 * n)
   place_is = ap (λ (x : ℕ). k * x) is
 
-  pub list-short : n ≤ deskLimit → k ≤ pileLimit → k * size ≤ 608
-  list-short n≤8 k≤32 =
+  pub list_short : n ≤ desk_limit → k ≤ pile_limit → k * size ≤ 608
+  list_short n≤8 k≤32 =
       let high : size ≤ 19 = omega arith in
       mul-le-mul k≤32 high
 
   -- the numbers of pile k are all there
-  pub pile-there : {l : List ℕ} → InList n (k + 1) l → k * size + (3 + 2 * n) ≤ length l
-  pile-there all = omega (arith, place_is, all.long)
+  pub pile_there : {l : List ℕ} → InList n (k + 1) l → k * size + (3 + 2 * n) ≤ length l
+  pile_there all = omega (arith, place_is, all.long)
 
-  pub given-at : (l : List ℕ) (c : ℕ) → get_or l (k * size + c) 0 ≡ given n l k c
+  pub given_at : (l : List ℕ) (c : ℕ) → get_or l (k * size + c) 0 ≡ given n l k c
   unfolding given
-  given-at l c = ap (λ (j : ℕ). get_or l (j + c) 0) place_is
+  given_at l c = ap (λ (j : ℕ). get_or l (j + c) 0) place_is
 
   -- its own number is the first of them
-  pub given-number : (l : List ℕ) → get_or l (k * size) 0 ≡ given n l k 0
-  given-number l = ap (λ (j : ℕ). get_or l j 0) (sym (add-zero (k * size))) ∙ given-at l 0
+  pub given_number : (l : List ℕ) → get_or l (k * size) 0 ≡ given n l k 0
+  given_number l = ap (λ (j : ℕ). get_or l j 0) (sym (add-zero (k * size))) ∙ given_at l 0

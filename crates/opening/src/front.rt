@@ -2,8 +2,8 @@
 ghost use Rattle.std.specs.Prelude.{◌≡◌};
 ghost use Rattle.std.proofs.lemmas.List.Edits.{sets};
 ghost use Rattle.rules.specs.Loops.{flat};
-ghost use Rattle.rules.specs.Layout.{headFor, frontLength, bodyBytes, entryBytes, frontBytes};
-ghost use Rattle.rules.specs.Opening.{given, givenPile};
+ghost use Rattle.rules.specs.Layout.{head_for, front_length, body_bytes, entry_bytes, front_bytes};
+ghost use Rattle.rules.specs.Opening.{given, given_pile};
 ghost use Rattle.opening.specs.Inner.{FrontReady, BodiesReady};
 
 use crate::given::{given_length, given_pile};
@@ -15,7 +15,7 @@ use padding::pack;
 // The contents of p piles, behind the head.
 fn put_contents(out: &mut [u8], n: u8, p: u8, numbers: &[u32])
     requires { FrontReady n p numbers.now out.old }
-    ensures { out.new ≡ sets out.old 4 (flat p (entryBytes (headFor n p) (λ k. given n numbers.now k 0))) }
+    ensures { out.new ≡ sets out.old 4 (flat p (entry_bytes (head_for n p) (λ k. given n numbers.now k 0))) }
 {
     let head = head_for(n, p);
     let length = given_length(n);
@@ -29,7 +29,7 @@ fn put_contents(out: &mut [u8], n: u8, p: u8, numbers: &[u32])
 // The head, and then the contents.
 pub(crate) fn put_front(out: &mut [u8], n: u8, p: u8, numbers: &[u32])
     requires { FrontReady n p numbers.now out.old }
-    ensures { out.new ≡ sets out.old 0 (frontBytes (headFor n p) (λ k. given n numbers.now k 0)) }
+    ensures { out.new ≡ sets out.old 0 (front_bytes (head_for n p) (λ k. given n numbers.now k 0)) }
 {
     put_head(out, head_for(n, p));
     put_contents(out, n, p, numbers);
@@ -38,7 +38,7 @@ pub(crate) fn put_front(out: &mut [u8], n: u8, p: u8, numbers: &[u32])
 // The bodies of p piles, one after the other, where their openings are lawful.
 pub(crate) fn put_bodies(out: &mut [u8], n: u8, p: u8, numbers: &[u32])
     requires { BodiesReady n p numbers.now out.old }
-    ensures { out.new ≡ sets out.old (frontLength (headFor n p)) (flat p (λ k. bodyBytes n (givenPile n numbers.now k))) }
+    ensures { out.new ≡ sets out.old (front_length (head_for n p)) (flat p (λ k. body_bytes n (given_pile n numbers.now k))) }
 {
     let size = body_length(n);
     let mut at = front_length(head_for(n, p));

@@ -1,10 +1,10 @@
 // A pile of the list that a book is opened from, as a record. The list has for each pile its number, floor, top and shares.
 ghost use Rattle.std.specs.Prelude.{◌≡◌, not, ◌+◌, ◌*◌};
 ghost use Rattle.rules.specs.Refusals.{◌when◌};
-ghost use Rattle.rules.specs.Pile.{openingLawful};
-ghost use Rattle.rules.specs.Opening.{givenPile};
-ghost use Rattle.rules.specs.Record.{recordOf};
-ghost use Rattle.pile.specs.View.{asRecord};
+ghost use Rattle.rules.specs.Pile.{opening_lawful};
+ghost use Rattle.rules.specs.Opening.{given_pile};
+ghost use Rattle.rules.specs.Record.{record_of};
+ghost use Rattle.pile.specs.View.{as_record};
 ghost use Rattle.opening.specs.Inner.{InList, Openings};
 
 use layout::limits::DESKS;
@@ -21,7 +21,7 @@ pub(crate) fn given_length(n: u8) -> usize
 // The shares of pile k, as a record has them.
 fn given_shares(numbers: &[u32], n: u8, k: u8) -> [u32; SHARES]
     requires { InList n (k + 1) numbers.now }
-    ensures { result ≡ (recordOf n (givenPile n numbers.now k)).shares }
+    ensures { result ≡ (record_of n (given_pile n numbers.now k)).shares }
 {
     let from = k as usize * given_length(n) + 3;
     let count = n as usize;
@@ -34,8 +34,8 @@ fn given_shares(numbers: &[u32], n: u8, k: u8) -> [u32; SHARES]
 // Pile k as a fresh record, or 5.
 pub(crate) fn given_pile(numbers: &[u32], n: u8, k: u8) -> Outcome
     requires { Openings n (k + 1) numbers.now }
-    ensures answer { result.answer ≡ 5 when not (openingLawful n (givenPile n numbers.now k)) }
-    ensures pile { result.answer ≡ 0 → asRecord result.pile ≡ recordOf n (givenPile n numbers.now k) }
+    ensures answer { result.answer ≡ 5 when not (opening_lawful n (given_pile n numbers.now k)) }
+    ensures pile { result.answer ≡ 0 → as_record result.pile ≡ record_of n (given_pile n numbers.now k) }
 {
     let shares = given_shares(numbers, n, k);
     let at = k as usize * given_length(n);

@@ -1,8 +1,8 @@
 // The first refusal of an opening.
 ghost use Rattle.std.specs.Prelude.{◌≡◌, not};
 ghost use Rattle.rules.specs.Refusals.{◌when◌, first};
-ghost use Rattle.rules.specs.Pile.{openingLawful};
-ghost use Rattle.rules.specs.Opening.{rising, given, givenPile, openingAnswer};
+ghost use Rattle.rules.specs.Pile.{opening_lawful};
+ghost use Rattle.rules.specs.Opening.{rising, given, given_pile, opening_answer};
 ghost use Rattle.opening.specs.Inner.{InList, Openings};
 
 use crate::given::{given_length, given_pile};
@@ -34,7 +34,7 @@ fn numbers_rise(numbers: &[u32], n: u8, p: u8) -> bool
 // 5 where the opening of a pile is unlawful.
 fn openings_answer(numbers: &[u32], n: u8, p: u8) -> u8
     requires { Openings n p numbers.now }
-    ensures { result ≡ first p (λ k. 5 when not (openingLawful n (givenPile n numbers.now k))) }
+    ensures { result ≡ first p (λ k. 5 when not (opening_lawful n (given_pile n numbers.now k))) }
 {
     let mut k: u8 = 0;
     while k < p {
@@ -50,7 +50,7 @@ fn openings_answer(numbers: &[u32], n: u8, p: u8) -> u8
 
 // All lines of the table, in their order.
 pub(crate) fn opening_answer(n: u8, p: u8, numbers: &[u32], room: usize) -> u8
-    ensures { result ≡ openingAnswer n p numbers.now room }
+    ensures { result ≡ opening_answer n p numbers.now room }
 {
     if !sizes_in_range(n, p) {
         return 2;

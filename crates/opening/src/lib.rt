@@ -4,15 +4,15 @@ mod given;
 mod judge;
 
 ghost use Rattle.std.specs.Prelude.{◌≡◌, length};
-ghost use Rattle.rules.specs.Opening.{openingAnswer, afterOpening};
+ghost use Rattle.rules.specs.Opening.{opening_answer, after_opening};
 
 use front::{put_bodies, put_front};
 use judge::opening_answer;
 
 // Opens a book of n desks and p piles; refused with 2, 3, 4, 5 or 8, and then nothing is written. Bytes past the book stay.
 pub fn open(n: u8, p: u8, numbers: &[u32], out: &mut [u8]) -> u8
-    ensures answer { result ≡ openingAnswer n p numbers.now (length out.old) }
-    ensures out { out.new ≡ afterOpening n p numbers.now out.old }
+    ensures answer { result ≡ opening_answer n p numbers.now (length out.old) }
+    ensures out { out.new ≡ after_opening n p numbers.now out.old }
 {
     let answer = opening_answer(n, p, numbers, out.len());
     if answer != 0 {

@@ -5,15 +5,15 @@ use native.Mathlib.Omega.{arith}
 use mathlib.Core.Path.{◌≡◌, refl, ap, ◌∙◌}
 use mathlib.Core.List.{List}
 use lib.ListN.{get_or}
-use Rattle.rules.specs.Record.{rowPlaces, sharePlaces, tallyPlaces, recordCell}
+use Rattle.rules.specs.Record.{row_places, share_places, tally_places, record_cell}
 use Rattle.rules.proofs.Loops.Parts.{get_d_part}
-use Rattle.padding.specs.Lists.{sharesAt, talliesAt, numbersRecord}
+use Rattle.padding.specs.Lists.{shares_at, tallies_at, numbers_record}
 
-pub record-cell : (l : List ℕ) (r c : ℕ) → r < 9 → c < rowPlaces → recordCell (numbersRecord l) r c ≡ get_or l (1 + r * rowPlaces + c) 0
-unfolding numbersRecord
-record-cell l zero zero r<9 c<row = refl
-record-cell l zero (suc zero) r<9 c<row = refl
-record-cell l zero (suc (suc j)) r<9 c<row =
-    get_d_part sharesAt sharePlaces l j (omega arith) ∙ ap (λ (q : ℕ). get_or l q 0) (omega arith)
-record-cell l (suc i) c r<9 c<row =
-    get_d_part talliesAt tallyPlaces l (i * rowPlaces + c) (omega arith) ∙ ap (λ (q : ℕ). get_or l q 0) (omega arith)
+pub record_cell_lem : (l : List ℕ) (r c : ℕ) → r < 9 → c < row_places → record_cell (numbers_record l) r c ≡ get_or l (1 + r * row_places + c) 0
+unfolding numbers_record
+record_cell_lem l zero zero r<9 c<row = refl
+record_cell_lem l zero (suc zero) r<9 c<row = refl
+record_cell_lem l zero (suc (suc j)) r<9 c<row =
+    get_d_part shares_at share_places l j (omega arith) ∙ ap (λ (q : ℕ). get_or l q 0) (omega arith)
+record_cell_lem l (suc i) c r<9 c<row =
+    get_d_part tallies_at tally_places l (i * row_places + c) (omega arith) ∙ ap (λ (q : ℕ). get_or l q 0) (omega arith)

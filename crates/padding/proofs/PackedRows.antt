@@ -8,43 +8,43 @@ use lib.ListN.{length, get_or, length-append}
 use lib.Seq.{sets}
 use Rattle.rules.specs.Loops.{flat, list}
 use Rattle.rules.specs.Numbers.{encode}
-use Rattle.rules.specs.Layout.{row_of, bodyRow, bodyBytes}
-use Rattle.rules.specs.Record.{recordCell, recordView}
-use Rattle.rules.proofs.Loops.Pieces.{flat-cong, length-list, list-add, list-cong}
+use Rattle.rules.specs.Layout.{row_of, body_row, body_bytes}
+use Rattle.rules.specs.Record.{record_cell, record_view}
+use Rattle.rules.proofs.Loops.Pieces.{flat_cong, length_list, list_add, list_cong}
 use Rattle.rules.proofs.Loops.Sets.{sets_then}
-use Rattle.rules.proofs.Bytes.Numbers.{encode-append, length-encode}
-use Rattle.padding.specs.Lists.{numbersRecord}
-use Rattle.padding.specs.Inner.{packedRow}
-use Rattle.padding.proofs.Cells.{record-cell}
+use Rattle.rules.proofs.Bytes.Numbers.{encode_append, length_encode}
+use Rattle.padding.specs.Lists.{numbers_record}
+use Rattle.padding.specs.Inner.{packed_row}
+use Rattle.padding.proofs.Cells.{record_cell_lem}
 
-pub length-packed-row : (n : ℕ) (l : List ℕ) (r : ℕ) → length (encode (packedRow n l r)) ≡ 8 * (n + 1)
-length-packed-row n l r = length-encode (packedRow n l r) ∙ simp (length-append, length-list) (omega arith)
+pub length_packed_row : (n : ℕ) (l : List ℕ) (r : ℕ) → length (encode (packed_row n l r)) ≡ 8 * (n + 1)
+length_packed_row n l r = length_encode (packed_row n l r) ∙ simp (length-append, length_list) (omega arith)
 
 -- two runs, one behind the other
-pub pack-runs : (before : List ℕ) (to n : ℕ) (f g : ℕ → ℕ) {m behind : ℕ} {between after : List ℕ} → m ≡ 2 + n → behind ≡ 8 + 4 * n
+pub pack_runs : (before : List ℕ) (to n : ℕ) (f g : ℕ → ℕ) {m behind : ℕ} {between after : List ℕ} → m ≡ 2 + n → behind ≡ 8 + 4 * n
     → between ≡ sets before to (encode (list m f)) → after ≡ sets between (to + behind) (encode (list n g))
     → after ≡ sets before to (encode (list (2 + n) f ++ list n g))
-pack-runs before to n f g {m} size place first second =
-    rw (second, first ∙ ap (λ (k : ℕ). sets before to (encode (list k f))) size, encode-append (list (2 + n) f) (list n g))
-    (sets_then before to (encode (list (2 + n) f)) _ (encode (list n g)) (omega (arith, place, length-encode (list (2 + n) f), length-list (2 + n) f)))
+pack_runs before to n f g {m} size place first second =
+    rw (second, first ∙ ap (λ (k : ℕ). sets before to (encode (list k f))) size, encode_append (list (2 + n) f) (list n g))
+    (sets_then before to (encode (list (2 + n) f)) _ (encode (list n g)) (omega (arith, place, length_encode (list (2 + n) f), length_list (2 + n) f)))
 
 -- the rows of n desks are the body's
 module _ (n : ℕ) (n≤8 : n ≤ 8) (l : List ℕ) where
-  row-packed : (r : ℕ) → r < suc n → packedRow n l r ≡ bodyRow n (recordView (numbersRecord l)) r
-  unfolding list flat bodyRow row_of
-  row-packed r r≤n =
+  row_packed : (r : ℕ) → r < suc n → packed_row n l r ≡ body_row n (record_view (numbers_record l)) r
+  unfolding list flat body_row row_of
+  row_packed r r≤n =
       ap₂ ◌++◌
-      (list-cong (2 + n) (λ k k<. sym (record-cell l r k (omega arith) (omega arith))) ∙ list-add 2 n (recordCell (numbersRecord l) r))
-      (list-cong n (λ k k<. ap (λ (q : ℕ). get_or l q 0) (omega arith) ∙ sym (record-cell l r (2 + (8 + k)) (omega arith) (omega arith))))
+      (list_cong (2 + n) (λ k k<. sym (record_cell_lem l r k (omega arith) (omega arith))) ∙ list_add 2 n (record_cell (numbers_record l) r))
+      (list_cong n (λ k k<. ap (λ (q : ℕ). get_or l q 0) (omega arith) ∙ sym (record_cell_lem l r (2 + (8 + k)) (omega arith) (omega arith))))
       ∙ by_row r
     where
       cell : ℕ → ℕ → ℕ
-      cell = recordCell (numbersRecord l)
+      cell = record_cell (numbers_record l)
 
-      by_row : (r : ℕ) → (cell r 0 ∷ cell r 1 ∷ list n (λ k. cell r (2 + k))) ++ list n (λ k. cell r (2 + (8 + k))) ≡ bodyRow n (recordView (numbersRecord l)) r
+      by_row : (r : ℕ) → (cell r 0 ∷ cell r 1 ∷ list n (λ k. cell r (2 + k))) ++ list n (λ k. cell r (2 + (8 + k))) ≡ body_row n (record_view (numbers_record l)) r
       by_row zero = refl
       by_row (suc i) = refl
 
-  pub body-packed : flat (suc n) (λ r. encode (packedRow n l r)) ≡ bodyBytes n (recordView (numbersRecord l))
-  unfolding bodyBytes
-  body-packed = flat-cong (suc n) (λ r r≤n. ap encode (row-packed r r≤n))
+  pub body_packed : flat (suc n) (λ r. encode (packed_row n l r)) ≡ body_bytes n (record_view (numbers_record l))
+  unfolding body_bytes
+  body_packed = flat_cong (suc n) (λ r r≤n. ap encode (row_packed r r≤n))

@@ -6,21 +6,21 @@ use mathlib.Core.Path.{◌≡◌, ap, sym, ◌∙◌}
 use mathlib.Core.List.{List, ◌++◌, append_assoc}
 use lib.ListN.{length, take, drop}
 use lib.Seq.{sets, sets-eq, drop-drop}
-use Rattle.rules.specs.Numbers.{bytes, part, afterPut}
+use Rattle.rules.specs.Numbers.{bytes, part, after_put}
 use Rattle.rules.proofs.Loops.Parts.{length_part}
-use Rattle.rules.proofs.Loops.Sets.{sets-to-end}
-use Rattle.rules.proofs.Bytes.Numbers.{length-bytes}
-use Rattle.rules.proofs.Bytes.Put.{put-fits}
+use Rattle.rules.proofs.Loops.Sets.{sets_to_end}
+use Rattle.rules.proofs.Bytes.Numbers.{length_bytes}
+use Rattle.rules.proofs.Bytes.Put.{put_fits}
 
-pub back-in-place : (l : List ℕ) (at m : ℕ) (v : List ℕ) → length v ≡ m → at + m ≤ length l → take at l ++ (v ++ drop m (drop at l)) ≡ sets l at v
-back-in-place l at m v long fits =
+pub back_in_place : (l : List ℕ) (at m : ℕ) (v : List ℕ) → length v ≡ m → at + m ≤ length l → take at l ++ (v ++ drop m (drop at l)) ≡ sets l at v
+back_in_place l at m v long fits =
     ap (λ (rest : List ℕ). take at l ++ (v ++ rest)) (drop-drop m at l ∙ ap (λ (k : ℕ). drop (at + k) l) (sym long))
     ∙ sym (append_assoc (take at l) v (drop (at + length v) l)) ∙ sym (sets-eq v l at (omega arith))
 
 -- a number put into the part of its four bytes
-pub put-in-part : (l : List ℕ) (at m x : ℕ) {four : List ℕ} → four ≡ afterPut 4 (part at m l) 0 x → m ≡ 4 → at + m ≤ length l
+pub put_in_part : (l : List ℕ) (at m x : ℕ) {four : List ℕ} → four ≡ after_put 4 (part at m l) 0 x → m ≡ 4 → at + m ≤ length l
     → take at l ++ (four ++ drop m (drop at l)) ≡ sets l at (bytes 4 x)
-put-in-part l at m x e is-4 fits =
+put_in_part l at m x e is-4 fits =
     let there : length (part at m l) ≡ m = length_part at m l fits in
-    rw (e ∙ put-fits 4 (part at m l) 0 x (omega arith) ∙ sets-to-end (part at m l) 0 (bytes 4 x) (omega (arith, length-bytes 4 x)))
-    (back-in-place l at m (bytes 4 x) (length-bytes 4 x ∙ sym is-4) fits)
+    rw (e ∙ put_fits 4 (part at m l) 0 x (omega arith) ∙ sets_to_end (part at m l) 0 (bytes 4 x) (omega (arith, length_bytes 4 x)))
+    (back_in_place l at m (bytes 4 x) (length_bytes 4 x ∙ sym is-4) fits)

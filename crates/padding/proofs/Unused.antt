@@ -13,124 +13,124 @@ use lib.Dec.{lit<, eqb}
 use borrow.Author.Tests.{eqb-true, eq-eqb, lt-ltb}
 use Rattle.rules.specs.Loops.{◌and◌, every}
 use Rattle.rules.specs.Pile.{Side, draw, tip, Pile}
-use Rattle.rules.specs.Layout.{column, earnedColumn}
-use Rattle.rules.specs.Record.{Record, recordCell, recordView, unusedShares, unusedPlaces, rowPlaces, tipsPlace}
-use Rattle.rules.proofs.Loops.Logic.{same, and_left, and_right, and_both, or-first, or-second}
-use Rattle.rules.proofs.Loops.Every.{every-at, every-all}
-use Rattle.rules.proofs.Pile.Facts.{both-all}
-use Rattle.rules.proofs.File.Body.{by-column, column-below}
-use Rattle.rules.proofs.Record.Unused.{unused-share, unused-earned, unused-give}
-use Rattle.padding.specs.Lists.{numbersRecord}
-use Rattle.padding.proofs.Cells.{record-cell}
+use Rattle.rules.specs.Layout.{column, earned_column}
+use Rattle.rules.specs.Record.{Record, record_cell, record_view, unused_shares, unused_places, row_places, tips_place}
+use Rattle.rules.proofs.Loops.Logic.{same, and_left, and_right, and_both, or_first, or_second}
+use Rattle.rules.proofs.Loops.Every.{every_at, every_all}
+use Rattle.rules.proofs.Pile.Facts.{both_all}
+use Rattle.rules.proofs.File.Body.{by_column, column_below}
+use Rattle.rules.proofs.Record.Unused.{unused_share, unused_earned, unused_give}
+use Rattle.padding.specs.Lists.{numbers_record}
+use Rattle.padding.proofs.Cells.{record_cell_lem}
 
 -- where a row's gives or shares of a side start
-abbrev halfAt : Side → ℕ
-halfAt draw = 2
-halfAt tip = tipsPlace
+abbrev half_at : Side → ℕ
+half_at draw = 2
+half_at tip = tips_place
 
 -- a row that starts at a place is 0 past n, on a side and on both
-abbrev sidePadding : List ℕ → ℕ → ℕ → Side → Bool
-sidePadding l n at s = every (8 - n) (λ k. eqb (get_or l (at + halfAt s + n + k) 0) 0)
+abbrev side_padding : List ℕ → ℕ → ℕ → Side → Bool
+side_padding l n at s = every (8 - n) (λ k. eqb (get_or l (at + half_at s + n + k) 0) 0)
 
-abbrev pub rowPadding : List ℕ → ℕ → ℕ → Bool
-rowPadding l n at = sidePadding l n at draw and sidePadding l n at tip
+abbrev pub row_padding : List ℕ → ℕ → ℕ → Bool
+row_padding l n at = side_padding l n at draw and side_padding l n at tip
 
 -- where the row of desk i starts
 abbrev pub row_at : ℕ → ℕ
-row_at i = 1 + (i + 1) * rowPlaces
+row_at i = 1 + (i + 1) * row_places
 
 -- the rows from desk n on, as one range
-abbrev pub rowsPast : List ℕ → ℕ → Bool
-rowsPast l n = every ((8 - n) * rowPlaces) (λ k. eqb (get_or l (row_at n + k) 0) 0)
+abbrev pub rows_past : List ℕ → ℕ → Bool
+rows_past l n = every ((8 - n) * row_places) (λ k. eqb (get_or l (row_at n + k) 0) 0)
 
 module _ (l : List ℕ) (n : ℕ) (n≤8 : n ≤ 8) where
   abbrev R : Record
-  R = numbersRecord l
+  R = numbers_record l
 
   abbrev P : Pile
-  P = recordView R
+  P = record_view R
 
   -- row r, which starts at a place
-  module _ (r at : ℕ) (r<9 : r < 9) (starts : at ≡ 1 + r * rowPlaces) where
-    past-n : (s : Side) (k : ℕ) → k < 8 - n → get_or l (at + halfAt s + n + k) 0 ≡ recordCell R r (column 8 s (n + k))
-    past-n draw k m = ap (λ (q : ℕ). get_or l q 0) (omega arith) ∙ sym (record-cell l r (column 8 draw (n + k)) r<9 (omega arith))
-    past-n tip k m = ap (λ (q : ℕ). get_or l q 0) (omega arith) ∙ sym (record-cell l r (column 8 tip (n + k)) r<9 (omega arith))
+  module _ (r at : ℕ) (r<9 : r < 9) (starts : at ≡ 1 + r * row_places) where
+    past_n : (s : Side) (k : ℕ) → k < 8 - n → get_or l (at + half_at s + n + k) 0 ≡ record_cell R r (column 8 s (n + k))
+    past_n draw k m = ap (λ (q : ℕ). get_or l q 0) (omega arith) ∙ sym (record_cell_lem l r (column 8 draw (n + k)) r<9 (omega arith))
+    past_n tip k m = ap (λ (q : ℕ). get_or l q 0) (omega arith) ∙ sym (record_cell_lem l r (column 8 tip (n + k)) r<9 (omega arith))
 
-    padding-at : rowPadding l n at ≡ true → (s : Side) (j : ℕ) → n ≤ j → j < 8 → recordCell R r (column 8 s j) ≡ 0
-    padding-at e s j n≤j j<8 =
+    padding_at : row_padding l n at ≡ true → (s : Side) (j : ℕ) → n ≤ j → j < 8 → record_cell R r (column 8 s j) ≡ 0
+    padding_at e s j n≤j j<8 =
         let is : j ≡ n + (j - n) = omega arith in
-        ap (λ (q : ℕ). recordCell R r (column 8 s q)) is ∙ sym (past-n s (j - n) (omega arith))
-        ∙ eqb-true _ _ (every-at (8 - n) _ (side s) (j - n) (omega arith))
+        ap (λ (q : ℕ). record_cell R r (column 8 s q)) is ∙ sym (past_n s (j - n) (omega arith))
+        ∙ eqb-true _ _ (every_at (8 - n) _ (side s) (j - n) (omega arith))
       where
-        side : (s : Side) → sidePadding l n at s ≡ true
+        side : (s : Side) → side_padding l n at s ≡ true
         side draw = and_left _ _ e
         side tip = and_right _ _ e
 
-    padding-all : ((s : Side) (j : ℕ) → n ≤ j → j < 8 → recordCell R r (column 8 s j) ≡ 0) → rowPadding l n at ≡ true
-    padding-all h = and_both (side draw) (side tip)
+    padding_all : ((s : Side) (j : ℕ) → n ≤ j → j < 8 → record_cell R r (column 8 s j) ≡ 0) → row_padding l n at ≡ true
+    padding_all h = and_both (side draw) (side tip)
       where
-        side : (s : Side) → sidePadding l n at s ≡ true
-        side s = every-all (8 - n) (λ k m. eq-eqb _ _ (past-n s k m ∙ h s (n + k) (omega arith) (omega arith)))
+        side : (s : Side) → side_padding l n at s ≡ true
+        side s = every_all (8 - n) (λ k m. eq-eqb _ _ (past_n s k m ∙ h s (n + k) (omega arith) (omega arith)))
 
   -- shares
-  shares-all : ((s : Side) (j : ℕ) → n ≤ j → j < 8 → P.share s j ≡ 0) → unusedShares n P ≡ true
-  unfolding unusedShares
-  shares-all h =
-      every-all 8 (λ j j<8. by_cases (dec_lt j n) (λ m. or-first (lt-ltb j n m) _)
-      (λ m. or-second _ (both-all (λ s. eq-eqb _ _ (h s j (omega arith) j<8)))))
+  shares_all : ((s : Side) (j : ℕ) → n ≤ j → j < 8 → P.share s j ≡ 0) → unused_shares n P ≡ true
+  unfolding unused_shares
+  shares_all h =
+      every_all 8 (λ j j<8. by_cases (dec_lt j n) (λ m. or_first (lt-ltb j n m) _)
+      (λ m. or_second _ (both_all (λ s. eq-eqb _ _ (h s j (omega arith) j<8)))))
 
-  pub unused-shares : rowPadding l n 1 ≡ unusedShares n P
-  unused-shares =
-      same _ _ (λ e. shares-all (padding-at 0 1 (lit< tt) (omega arith) e)) (λ e. padding-all 0 1 (lit< tt) (omega arith) (unused-share n P e))
+  pub unused_shares_lem : row_padding l n 1 ≡ unused_shares n P
+  unused_shares_lem =
+      same _ _ (λ e. shares_all (padding_at 0 1 (lit< tt) (omega arith) e)) (λ e. padding_all 0 1 (lit< tt) (omega arith) (unused_share n P e))
 
   -- places: the tallies of desks past n, and the gives of such desks and to them
-  places-all : ((s : Side) (i : ℕ) → n ≤ i → i < 8 → P.earned s i ≡ 0)
-      → ((s : Side) (i j : ℕ) → i < 8 → j < 8 → (n ≤ i) ⊎ (n ≤ j) → P.give s i j ≡ 0) → unusedPlaces n P ≡ true
-  unfolding unusedPlaces
-  places-all h g =
-      every-all 8 (λ i i<8. and_both
-      (by_cases (dec_lt i n) (λ m. or-first (lt-ltb i n m) _) (λ m. or-second _ (both-all (λ s. eq-eqb _ _ (h s i (omega arith) i<8)))))
-      (every-all 8 (λ j j<8. by_cases (dec_lt i n)
-      (λ m. by_cases (dec_lt j n) (λ o. or-first (and_both (lt-ltb i n m) (lt-ltb j n o)) _)
-      (λ o. or-second _ (both-all (λ s. eq-eqb _ _ (g s i j i<8 j<8 (inr (omega arith)))))))
-      (λ m. or-second _ (both-all (λ s. eq-eqb _ _ (g s i j i<8 j<8 (inl (omega arith)))))))))
+  places_all : ((s : Side) (i : ℕ) → n ≤ i → i < 8 → P.earned s i ≡ 0)
+      → ((s : Side) (i j : ℕ) → i < 8 → j < 8 → (n ≤ i) ⊎ (n ≤ j) → P.give s i j ≡ 0) → unused_places n P ≡ true
+  unfolding unused_places
+  places_all h g =
+      every_all 8 (λ i i<8. and_both
+      (by_cases (dec_lt i n) (λ m. or_first (lt-ltb i n m) _) (λ m. or_second _ (both_all (λ s. eq-eqb _ _ (h s i (omega arith) i<8)))))
+      (every_all 8 (λ j j<8. by_cases (dec_lt i n)
+      (λ m. by_cases (dec_lt j n) (λ o. or_first (and_both (lt-ltb i n m) (lt-ltb j n o)) _)
+      (λ o. or_second _ (both_all (λ s. eq-eqb _ _ (g s i j i<8 j<8 (inr (omega arith)))))))
+      (λ m. or_second _ (both_all (λ s. eq-eqb _ _ (g s i j i<8 j<8 (inl (omega arith)))))))))
 
   -- a place of the rows past n is that of a row and a column
-  past-at : rowsPast l n ≡ true → (i c : ℕ) → n ≤ i → i < 8 → c < rowPlaces → recordCell R (suc i) c ≡ 0
-  past-at e i c n≤i i<8 c<row =
-      let at : 1 + suc i * rowPlaces + c ≡ row_at n + ((i - n) * rowPlaces + c) = omega arith in
-      record-cell l (suc i) c (omega arith) c<row ∙ ap (λ (q : ℕ). get_or l q 0) at
-      ∙ eqb-true _ _ (every-at ((8 - n) * rowPlaces) _ e ((i - n) * rowPlaces + c) (omega arith))
+  past_at : rows_past l n ≡ true → (i c : ℕ) → n ≤ i → i < 8 → c < row_places → record_cell R (suc i) c ≡ 0
+  past_at e i c n≤i i<8 c<row =
+      let at : 1 + suc i * row_places + c ≡ row_at n + ((i - n) * row_places + c) = omega arith in
+      record_cell_lem l (suc i) c (omega arith) c<row ∙ ap (λ (q : ℕ). get_or l q 0) at
+      ∙ eqb-true _ _ (every_at ((8 - n) * row_places) _ e ((i - n) * row_places + c) (omega arith))
 
-  past_all : ((i c : ℕ) → n ≤ i → i < 8 → c < rowPlaces → recordCell R (suc i) c ≡ 0) → rowsPast l n ≡ true
+  past_all : ((i c : ℕ) → n ≤ i → i < 8 → c < row_places → record_cell R (suc i) c ≡ 0) → rows_past l n ≡ true
   past_all h =
-      every-all ((8 - n) * rowPlaces) (λ k m.
-      let row : k / rowPlaces < 8 - n = (div-lt_iff_lt-mul (lit< tt)).1 m in
-      let c<row : k % rowPlaces < rowPlaces = mod-lt k (lit< tt) in
-      let at : row_at n + k ≡ 1 + suc (n + k / rowPlaces) * rowPlaces + k % rowPlaces = omega (arith, div-add-mod' k rowPlaces) in
-      eq-eqb _ _ (ap (λ (q : ℕ). get_or l q 0) at ∙ sym (record-cell l (suc (n + k / rowPlaces)) (k % rowPlaces) (omega arith) c<row)
-      ∙ h (n + k / rowPlaces) (k % rowPlaces) (omega arith) (omega arith) c<row))
+      every_all ((8 - n) * row_places) (λ k m.
+      let row : k / row_places < 8 - n = (div-lt_iff_lt-mul (lit< tt)).1 m in
+      let c<row : k % row_places < row_places = mod-lt k (lit< tt) in
+      let at : row_at n + k ≡ 1 + suc (n + k / row_places) * row_places + k % row_places = omega (arith, div-add-mod' k row_places) in
+      eq-eqb _ _ (ap (λ (q : ℕ). get_or l q 0) at ∙ sym (record_cell_lem l (suc (n + k / row_places)) (k % row_places) (omega arith) c<row)
+      ∙ h (n + k / row_places) (k % row_places) (omega arith) (omega arith) c<row))
 
-  pub unused-places : every n (λ i. rowPadding l n (row_at i)) and rowsPast l n ≡ unusedPlaces n P
-  unused-places = same _ _ forth back
+  pub unused_places_lem : every n (λ i. row_padding l n (row_at i)) and rows_past l n ≡ unused_places n P
+  unused_places_lem = same _ _ forth back
     where
-      earned-small : (s : Side) → earnedColumn s < rowPlaces
-      earned-small draw = lit< tt
-      earned-small tip = lit< tt
+      earned_small : (s : Side) → earned_column s < row_places
+      earned_small draw = lit< tt
+      earned_small tip = lit< tt
 
-      forth : every n (λ i. rowPadding l n (row_at i)) and rowsPast l n ≡ true → unusedPlaces n P ≡ true
+      forth : every n (λ i. row_padding l n (row_at i)) and rows_past l n ≡ true → unused_places n P ≡ true
       forth e =
-          let past = past-at (and_right _ _ e) in
-          places-all (λ s i n≤i i<8. past i (earnedColumn s) n≤i i<8 (earned-small s))
+          let past = past_at (and_right _ _ e) in
+          places_all (λ s i n≤i i<8. past i (earned_column s) n≤i i<8 (earned_small s))
           (λ s i j i<8 j<8 h. by_cases (dec_lt i n)
-          (λ m. padding-at (suc i) (row_at i) (omega arith) (omega arith) (every-at n _ (and_left _ _ e) i m) s j (⊎_elim (λ o. absurd (omega arith)) (λ o. o) h) j<8)
-          (λ m. past i (column 8 s j) (omega arith) i<8 (column-below 8 s j j<8)))
+          (λ m. padding_at (suc i) (row_at i) (omega arith) (omega arith) (every_at n _ (and_left _ _ e) i m) s j (⊎_elim (λ o. absurd (omega arith)) (λ o. o) h) j<8)
+          (λ m. past i (column 8 s j) (omega arith) i<8 (column_below 8 s j j<8)))
 
-      back : unusedPlaces n P ≡ true → every n (λ i. rowPadding l n (row_at i)) and rowsPast l n ≡ true
+      back : unused_places n P ≡ true → every n (λ i. row_padding l n (row_at i)) and rows_past l n ≡ true
       back e =
-          let earned = unused-earned n P e in
-          let give = unused-give n P e in
+          let earned = unused_earned n P e in
+          let give = unused_give n P e in
           and_both
-          (every-all n (λ i m. padding-all (suc i) (row_at i) (omega arith) (omega arith) (λ s j n≤j j<8. give s i j (omega arith) j<8 (inr n≤j))))
-          (past_all (λ i c n≤i i<8. by-column 8 (λ c. recordCell R (suc i) c ≡ 0) (earned draw i n≤i i<8) (earned tip i n≤i i<8)
+          (every_all n (λ i m. padding_all (suc i) (row_at i) (omega arith) (omega arith) (λ s j n≤j j<8. give s i j (omega arith) j<8 (inr n≤j))))
+          (past_all (λ i c n≤i i<8. by_column 8 (λ c. record_cell R (suc i) c ≡ 0) (earned draw i n≤i i<8) (earned tip i n≤i i<8)
           (λ s j j<8. give s i j i<8 j<8 (inl n≤i)) c))

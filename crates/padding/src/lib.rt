@@ -6,7 +6,7 @@ pub mod runs;
 mod zeros;
 
 ghost use Rattle.std.specs.Prelude.{◌≡◌, length};
-ghost use Rattle.padding.specs.Lists.{padAnswer, afterPad, packAnswer, afterPack, listAnswer};
+ghost use Rattle.padding.specs.Lists.{pad_answer, after_pad, pack_answer, after_pack, list_answer};
 
 use audit::check_bodies;
 use layout::lengths::{LONGEST_BODY, body_length};
@@ -33,8 +33,8 @@ pub const RECORD: usize = TALLIES_AT + DESKS * ROW;
 // Fills a list with the record of the body of n desks at a position; refused with 2 for n, 3 where no body is there, or 8 where the list is shorter than a
 // record. Numbers past the record stay.
 pub fn pad(bytes: &[u8], at: usize, n: u8, out: &mut [u32]) -> u8
-    ensures answer { result ≡ padAnswer n at (length bytes.now) (length out.old) }
-    ensures out { out.new ≡ afterPad n at bytes.now out.old }
+    ensures answer { result ≡ pad_answer n at (length bytes.now) (length out.old) }
+    ensures out { out.new ≡ after_pad n at bytes.now out.old }
 {
     let size = body_length(n);
     if size == 0 {
@@ -58,8 +58,8 @@ pub fn pad(bytes: &[u8], at: usize, n: u8, out: &mut [u32]) -> u8
 // Writes the body of a list's record at a position; refused with 3 where the list has another length than a record, 2 for its n, or 8 where the body has no
 // room.
 pub fn pack(numbers: &[u32], bytes: &mut [u8], at: usize) -> u8
-    ensures answer { result ≡ packAnswer numbers.now at (length bytes.old) }
-    ensures bytes { bytes.new ≡ afterPack numbers.now at bytes.old }
+    ensures answer { result ≡ pack_answer numbers.now at (length bytes.old) }
+    ensures bytes { bytes.new ≡ after_pack numbers.now at bytes.old }
 {
     if numbers.len() != RECORD {
         return 3;
@@ -84,7 +84,7 @@ pub fn pack(numbers: &[u32], bytes: &mut [u8], at: usize) -> u8
 // The own refusal of a list's record: 3 where the list has another length than a record, then 2, 5, 6 or 7, or 0. The used places are judged as the body that
 // they are, and those past n are 0.
 pub fn check_record(numbers: &[u32]) -> u8
-    ensures { result ≡ listAnswer numbers.now }
+    ensures { result ≡ list_answer numbers.now }
 {
     let mut body = [0u8; LONGEST_BODY];
     let shape = pack(numbers, &mut body, 0);

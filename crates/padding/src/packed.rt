@@ -3,7 +3,7 @@ ghost use Rattle.std.specs.Prelude.{◌≡◌, suc, ◌+◌, ◌*◌, get_or};
 ghost use Rattle.std.proofs.lemmas.List.Edits.{sets};
 ghost use Rattle.rules.specs.Loops.{flat, list};
 ghost use Rattle.rules.specs.Numbers.{encode};
-ghost use Rattle.padding.specs.Inner.{RunFits, RowsFit, packedRow};
+ghost use Rattle.padding.specs.Inner.{RunFits, RowsFit, packed_row};
 
 use crate::{OPENING_AT, ROW, TIPS};
 use layout::cells::{cell_at, side_column};
@@ -26,7 +26,7 @@ fn pack_run(bytes: &mut [u8], at: usize, numbers: &[u32], from: usize, count: us
 // Writes the opening and the rows of n desks at a position. The opening is laid out as a row is.
 pub(crate) fn pack_rows(bytes: &mut [u8], at: usize, numbers: &[u32], n: u8)
     requires { RowsFit n at bytes.old numbers.now }
-    ensures { bytes.new ≡ sets bytes.old at (flat (suc n) (λ r. encode (packedRow n numbers.now r))) }
+    ensures { bytes.new ≡ sets bytes.old at (flat (suc n) (λ r. encode (packed_row n numbers.now r))) }
 {
     // As many columns stand before those of tip.
     let front = side_column(n, 1, 0);

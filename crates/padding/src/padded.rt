@@ -3,10 +3,10 @@ ghost use Rattle.std.specs.Prelude.{◌≡◌, ◌+◌, ◌*◌, length, replica
 ghost use Rattle.std.proofs.lemmas.List.Edits.{sets};
 ghost use Rattle.rules.specs.Loops.{list};
 ghost use Rattle.rules.specs.Numbers.{number};
-ghost use Rattle.rules.specs.Layout.{bodyView};
-ghost use Rattle.rules.specs.Record.{recordOf};
+ghost use Rattle.rules.specs.Layout.{body_view};
+ghost use Rattle.rules.specs.Record.{record_of};
 ghost use Rattle.padding.specs.Inner.{RunFits, RowsClear};
-ghost use Rattle.padding.specs.Lists.{bodyNumbers};
+ghost use Rattle.padding.specs.Lists.{body_numbers};
 
 use crate::{ROW, TIPS};
 use layout::cells::{cell_at, side_column};
@@ -40,7 +40,7 @@ fn pad_run(out: &mut [u32], to: usize, bytes: &[u8], from: usize, count: usize)
 // Reads the opening and the rows of the body at a position, each into 18 places that are 0. The opening is laid out as a row is.
 pub(crate) fn pad_rows(out: &mut [u32], bytes: &[u8], n: u8, at: usize)
     requires { RowsClear n at bytes.now out.old }
-    ensures { out.new ≡ bodyNumbers (recordOf n (bodyView n bytes.now at)) }
+    ensures { out.new ≡ body_numbers (record_of n (body_view n bytes.now at)) }
 {
     // As many columns stand before those of tip.
     let front = side_column(n, 1, 0);

@@ -1,12 +1,12 @@
 // Numbers copied from one list to another.
 ghost use Rattle.std.specs.Prelude.{◌≡◌, length};
-ghost use Rattle.padding.specs.Copies.{copyAnswer, afterCopy};
+ghost use Rattle.padding.specs.Copies.{copy_answer, after_copy};
 
 // Copies count numbers of a list, from a place on, to the places of another from one on; refused with 3 where the first does not have them, and with 8 where
 // the other has no room, and then nothing is copied.
 pub fn copy_run(out: &mut [u32], to: usize, numbers: &[u32], from: usize, count: usize) -> u8
-    ensures answer { result ≡ copyAnswer to (length out.old) from (length numbers.now) count }
-    ensures out { out.new ≡ afterCopy to out.old from numbers.now count }
+    ensures answer { result ≡ copy_answer to (length out.old) from (length numbers.now) count }
+    ensures out { out.new ≡ after_copy to out.old from numbers.now count }
 {
     if numbers.len() < from {
         return 3;

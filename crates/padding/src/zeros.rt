@@ -1,8 +1,8 @@
 // The places of a list's record past n: all of them are 0.
 ghost use Rattle.std.specs.Prelude.{◌≡◌, ◌+◌, ◌-◌, ◌≤◌, length, get_or, eqb};
 ghost use Rattle.rules.specs.Loops.{◌and◌, every};
-ghost use Rattle.rules.specs.Record.{recordView, unusedShares, unusedPlaces};
-ghost use Rattle.padding.specs.Lists.{numbersRecord, recordLength};
+ghost use Rattle.rules.specs.Record.{record_view, unused_shares, unused_places};
+ghost use Rattle.padding.specs.Lists.{numbers_record, record_length};
 
 use crate::{OPENING_AT, ROW, TIPS};
 use layout::limits::DESKS;
@@ -36,16 +36,16 @@ fn row_padding_zero(numbers: &[u32], at: usize, n: usize) -> bool
 
 // The shares past n.
 pub(crate) fn opening_padding_zero(numbers: &[u32], n: usize) -> bool
-    requires { (n ≤ 8) × (length numbers.now ≡ recordLength) }
-    ensures { result ≡ unusedShares n (recordView (numbersRecord numbers.now)) }
+    requires { (n ≤ 8) × (length numbers.now ≡ record_length) }
+    ensures { result ≡ unused_shares n (record_view (numbers_record numbers.now)) }
 {
     row_padding_zero(numbers, OPENING_AT, n)
 }
 
 // The gives to desks past n, and the rows of those desks.
 pub(crate) fn rows_padding_zero(numbers: &[u32], n: usize) -> bool
-    requires { (n ≤ 8) × (length numbers.now ≡ recordLength) }
-    ensures { result ≡ unusedPlaces n (recordView (numbersRecord numbers.now)) }
+    requires { (n ≤ 8) × (length numbers.now ≡ record_length) }
+    ensures { result ≡ unused_places n (record_view (numbers_record numbers.now)) }
 {
     let mut i = 0;
     while i < n {

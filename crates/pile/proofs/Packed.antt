@@ -9,51 +9,51 @@ use mathlib.Core.List.{List}
 use lib.ListN.{length}
 use borrow.Author.Tests.{le-leb, eq-eqb}
 use Rattle.rules.specs.Loops.{between}
-use Rattle.rules.specs.Refusals.{◌when◌, ◌orElse◌}
-use Rattle.rules.specs.Pile.{Side, rights, tonnage, topLimit}
-use Rattle.rules.specs.Layout.{bodyLength, bodyView}
-use Rattle.rules.specs.Record.{Record, recordView, recordAnswer, InMemory}
+use Rattle.rules.specs.Refusals.{◌when◌, ◌or_else◌}
+use Rattle.rules.specs.Pile.{Side, rights, tonnage, top_limit}
+use Rattle.rules.specs.Layout.{body_length, body_view}
+use Rattle.rules.specs.Record.{Record, record_view, record_answer, InMemory}
 use Rattle.rules.proofs.Loops.Logic.{and_both}
-use Rattle.rules.proofs.Pile.Agree.{Agree, rights-cong, tonnage-cong}
-use Rattle.rules.proofs.Pile.Tonnage.{tonnage-within, rights-most}
-use Rattle.rules.proofs.Record.Facts.{record-facts}
-use Rattle.audit.specs.Audits.{bodyThere, rightsIn, tonnageIn}
-use Rattle.layout.proofs.Short.{body-most}
-use Rattle.audit.proofs.DeskRights.{desk-there, tonnage-there}
-use Rattle.padding.specs.Lists.{recordNumbers, listAnswer}
-use Rattle.padding.proofs.Checked.{packed-agrees}
+use Rattle.rules.proofs.Pile.Agree.{Agree, rights_cong, tonnage_cong}
+use Rattle.rules.proofs.Pile.Tonnage.{tonnage_within, rights_most}
+use Rattle.rules.proofs.Record.Facts.{record_facts}
+use Rattle.audit.specs.Audits.{body_there, rights_in, tonnage_in}
+use Rattle.layout.proofs.Short.{body_most}
+use Rattle.audit.proofs.DeskRights.{desk_there, tonnage_there}
+use Rattle.padding.specs.Lists.{record_numbers, list_answer}
+use Rattle.padding.proofs.Checked.{packed_agrees}
 use Rattle.pile.specs.Inner.{PackedAs}
-use Rattle.pile.proofs.RecordNumbers.{length-record, numbers-again}
+use Rattle.pile.proofs.RecordNumbers.{length_record, numbers_again}
 
-pub list-answer : (r : Record) → InMemory r → listAnswer (recordNumbers r) ≡ recordAnswer r
-unfolding listAnswer ◌when◌ ◌orElse◌
-list-answer r arrays = rw (eq-eqb _ _ (length-record r arrays.shares-long arrays.tallies-long), numbers-again r arrays.shares-long arrays.tallies-long)
+pub list_answer_lem : (r : Record) → InMemory r → list_answer (record_numbers r) ≡ record_answer r
+unfolding list_answer ◌when◌ ◌or_else◌
+list_answer_lem r arrays = rw (eq-eqb _ _ (length_record r arrays.shares_long arrays.tallies_long), numbers_again r arrays.shares_long arrays.tallies_long)
 
 -- the body of a lawful record
 module _ (r : Record) (arrays : InMemory r) {answer : ℕ} {body : List ℕ} (found : PackedAs r answer body) (long : length body ≡ 648) (none : answer ≡ 0) where
-  pub passed : recordAnswer r ≡ 0
-  passed = sym found.answer-is ∙ none
+  pub passed : record_answer r ≡ 0
+  passed = sym found.answer_is ∙ none
 
-  agrees : Agree r.n (bodyView r.n body 0) (recordView r)
-  unfolding recordNumbers
-  agrees = rw (numbers-again r arrays.shares-long arrays.tallies-long) at (packed-agrees (recordNumbers r) (list-answer r arrays ∙ passed) found.body_is)
+  agrees : Agree r.n (body_view r.n body 0) (record_view r)
+  unfolding record_numbers
+  agrees = rw (numbers_again r arrays.shares_long arrays.tallies_long) at (packed_agrees (record_numbers r) (list_answer_lem r arrays ∙ passed) found.body_is)
 
-  there : bodyThere r.n 0 (length body) ≡ true
-  unfolding bodyThere between
+  there : body_there r.n 0 (length body) ≡ true
+  unfolding body_there between
   there =
-      let desks = record-facts r passed in
-      and_both (and_both (le-leb _ _ desks.desks-least) (le-leb _ _ desks.desks-most)) (le-leb (0 + bodyLength r.n) (length body) (omega (arith, long, body-most r.n desks.desks-most)))
+      let desks = record_facts r passed in
+      and_both (and_both (le-leb _ _ desks.desks_least) (le-leb _ _ desks.desks_most)) (le-leb (0 + body_length r.n) (length body) (omega (arith, long, body_most r.n desks.desks_most)))
 
-  pub rights-read : (s : Side) (i : ℕ) → i < r.n → rightsIn s r.n 0 body i ≡ rights r.n (recordView r) s i
-  rights-read s i l = sym (desk-there s r.n 0 body i there l) ∙ rights-cong _ _ _ agrees s i l
+  pub rights_read : (s : Side) (i : ℕ) → i < r.n → rights_in s r.n 0 body i ≡ rights r.n (record_view r) s i
+  rights_read s i l = sym (desk_there s r.n 0 body i there l) ∙ rights_cong _ _ _ agrees s i l
 
-  pub rights-small : (s : Side) (i : ℕ) → i < r.n → rightsIn s r.n 0 body i ≤ topLimit
-  rights-small s i l = rw (rights-read s i l) (rights-most r.n (recordView r) (record-facts r passed).pile s i l)
+  pub rights_small : (s : Side) (i : ℕ) → i < r.n → rights_in s r.n 0 body i ≤ top_limit
+  rights_small s i l = rw (rights_read s i l) (rights_most r.n (record_view r) (record_facts r passed).pile s i l)
 
-  pub tonnage-read : tonnageIn r.n 0 body ≡ tonnage r.n (recordView r)
-  tonnage-read = sym (tonnage-there r.n 0 body there) ∙ tonnage-cong _ _ _ agrees
+  pub tonnage_read : tonnage_in r.n 0 body ≡ tonnage r.n (record_view r)
+  tonnage_read = sym (tonnage_there r.n 0 body there) ∙ tonnage_cong _ _ _ agrees
 
-  pub tonnage-small : tonnageIn r.n 0 body ≤ topLimit
-  tonnage-small =
-      let f = (record-facts r passed).pile in
-      rw tonnage-read (omega (arith, (tonnage-within r.n (recordView r) f).1, f.opening.top-limit))
+  pub tonnage_small : tonnage_in r.n 0 body ≤ top_limit
+  tonnage_small =
+      let f = (record_facts r passed).pile in
+      rw tonnage_read (omega (arith, (tonnage_within r.n (record_view r) f).1, f.opening.top_limit_lem))

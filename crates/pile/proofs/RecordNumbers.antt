@@ -12,91 +12,91 @@ use lib.Seq.{sets, take_all, take_at, drop_at}
 use lib.Dec.{leb, lit≤}
 use borrow.Author.Tests.{leb-true, leb-false, le-ltb, lt-ltb}
 use Rattle.rules.specs.Loops.{◌and◌, between}
-use Rattle.rules.specs.Refusals.{◌when◌, ◌orElse◌}
+use Rattle.rules.specs.Refusals.{◌when◌, ◌or_else◌}
 use Rattle.rules.specs.Numbers.{part}
-use Rattle.rules.specs.Layout.{deskLimit, bodyLength, bodyView}
-use Rattle.rules.specs.Record.{Record, sharePlaces, tallyPlaces, zeroRecord, recordOf, bodyRecord}
+use Rattle.rules.specs.Layout.{desk_limit, body_length, body_view}
+use Rattle.rules.specs.Record.{Record, share_places, tally_places, zero_record, record_of, body_record}
 use Rattle.rules.proofs.Loops.Logic.{and_left, and_right}
-use Rattle.rules.proofs.Loops.Refusals.{when-accepted, when-refused}
+use Rattle.rules.proofs.Loops.Refusals.{when_accepted, when_refused}
 use Rattle.rules.proofs.Loops.Parts.{length_part}
-use Rattle.rules.proofs.Loops.Sets.{sets_then, sets-to-end}
-use Rattle.rules.proofs.Record.RecordOf.{length-shares, length-tallies}
-use Rattle.padding.specs.Lists.{sharesAt, talliesAt, recordLength, bodyNumbers, recordNumbers, numbersRecord, padAnswer, afterPad}
+use Rattle.rules.proofs.Loops.Sets.{sets_then, sets_to_end}
+use Rattle.rules.proofs.Record.RecordOf.{length_shares, length_tallies}
+use Rattle.padding.specs.Lists.{shares_at, tallies_at, record_length, body_numbers, record_numbers, numbers_record, pad_answer, after_pad}
 
 pub whole_run : (l : List ℕ) (at m : ℕ) → at + m ≤ length l → sets (replicate m 0) 0 (part at m l) ≡ part at m l
-whole_run l at m fits = sets-to-end (replicate m 0) 0 (part at m l) (omega (arith, length_part at m l fits, length-replicate {A = ℕ} m 0))
+whole_run l at m fits = sets_to_end (replicate m 0) 0 (part at m l) (omega (arith, length_part at m l fits, length-replicate {A = ℕ} m 0))
 
-module _ (r : Record) (shares : length r.shares ≡ sharePlaces) (tallies : length r.tallies ≡ tallyPlaces) where
-  pub length-record : length (recordNumbers r) ≡ recordLength
-  unfolding recordNumbers bodyNumbers
-  length-record = simp length-append (omega (arith, shares, tallies))
+module _ (r : Record) (shares : length r.shares ≡ share_places) (tallies : length r.tallies ≡ tally_places) where
+  pub length_record : length (record_numbers r) ≡ record_length
+  unfolding record_numbers body_numbers
+  length_record = simp length-append (omega (arith, shares, tallies))
 
   -- a list of zeros of a record's length becomes its numbers
-  all-numbers : sets (replicate recordLength 0) 0 (recordNumbers r) ≡ recordNumbers r
-  all-numbers = sets-to-end (replicate recordLength 0) 0 (recordNumbers r) (omega (arith, length-record, length-replicate {A = ℕ} recordLength 0))
+  all_numbers : sets (replicate record_length 0) 0 (record_numbers r) ≡ record_numbers r
+  all_numbers = sets_to_end (replicate record_length 0) 0 (record_numbers r) (omega (arith, length_record, length-replicate {A = ℕ} record_length 0))
 
-  pub three-runs : {two three : List ℕ} → two ≡ sets (sets (replicate recordLength 0) 0 (r.n ∷ r.floor ∷ r.top ∷ [])) sharesAt (part 0 sharePlaces r.shares)
-      → three ≡ sets two talliesAt (part 0 tallyPlaces r.tallies) → three ≡ recordNumbers r
-  unfolding recordNumbers bodyNumbers
-  three-runs second third =
-      rw (third, second, take_all sharePlaces r.shares (le_of_eq shares), take_all tallyPlaces r.tallies (le_of_eq tallies))
-      (sets_then (sets (replicate recordLength 0) 0 (r.n ∷ r.floor ∷ r.top ∷ [])) sharesAt r.shares talliesAt r.tallies (omega arith))
-      ∙ all-numbers
+  pub three_runs : {two three : List ℕ} → two ≡ sets (sets (replicate record_length 0) 0 (r.n ∷ r.floor ∷ r.top ∷ [])) shares_at (part 0 share_places r.shares)
+      → three ≡ sets two tallies_at (part 0 tally_places r.tallies) → three ≡ record_numbers r
+  unfolding record_numbers body_numbers
+  three_runs second third =
+      rw (third, second, take_all share_places r.shares (le_of_eq shares), take_all tally_places r.tallies (le_of_eq tallies))
+      (sets_then (sets (replicate record_length 0) 0 (r.n ∷ r.floor ∷ r.top ∷ [])) shares_at r.shares tallies_at r.tallies (omega arith))
+      ∙ all_numbers
 
   -- and they are the record again
-  pub numbers-again : numbersRecord (recordNumbers r) ≡ r
-  unfolding recordNumbers bodyNumbers numbersRecord
-  numbers-again =
+  pub numbers_again : numbers_record (record_numbers r) ≡ r
+  unfolding record_numbers body_numbers numbers_record
+  numbers_again =
       ap₂ (λ (s t : List ℕ). record { n = r.n; floor = r.floor; top = r.top; shares = s; tallies = t })
-      (take_at r.shares r.tallies sharePlaces shares)
-      (ap (take tallyPlaces) (drop_at r.shares r.tallies sharePlaces shares) ∙ take_all tallyPlaces r.tallies (le_of_eq tallies))
+      (take_at r.shares r.tallies share_places shares)
+      (ap (take tally_places) (drop_at r.shares r.tallies share_places shares) ∙ take_all tally_places r.tallies (le_of_eq tallies))
 
 -- a list that is a record's: its length, its n, and the record
 pub record Listed (l : List ℕ) (r : Record) : Type 0 where
-  pub long : length l ≡ recordLength
+  pub long : length l ≡ record_length
   pub few : get_or l 0 0 ≤ 8
-  pub is : numbersRecord l ≡ r
+  pub is : numbers_record l ≡ r
 
-zeros-listed : Listed (replicate recordLength 0) zeroRecord
-unfolding numbersRecord
-zeros-listed = record { long = refl; few = lit≤ tt; is = refl }
+zeros_listed : Listed (replicate record_length 0) zero_record
+unfolding numbers_record
+zeros_listed = record { long = refl; few = lit≤ tt; is = refl }
 
 -- what padding leaves of a list of zeros: the record's numbers where a body is there, and zeros where none is
 module _ (n at : ℕ) (b : List ℕ) where
   abbrev R : Record
-  R = recordOf n (bodyView n b at)
+  R = record_of n (body_view n b at)
 
   abbrev there : Bool
-  there = between 1 deskLimit n and leb (at + bodyLength n) (length b)
+  there = between 1 desk_limit n and leb (at + body_length n) (length b)
 
-  numbers-listed : n ≤ 8 → Listed (recordNumbers R) R
-  unfolding recordOf recordNumbers
-  numbers-listed few =
+  numbers_listed : n ≤ 8 → Listed (record_numbers R) R
+  unfolding record_of record_numbers
+  numbers_listed few =
       record {
-        long = length-record R (length-shares n (bodyView n b at)) (length-tallies n (bodyView n b at));
+        long = length_record R (length_shares n (body_view n b at)) (length_tallies n (body_view n b at));
         few = few;
-        is = numbers-again R (length-shares n (bodyView n b at)) (length-tallies n (bodyView n b at));
+        is = numbers_again R (length_shares n (body_view n b at)) (length_tallies n (body_view n b at));
       }
 
-  answered : there ≡ true → padAnswer n at (length b) recordLength ≡ 0
-  unfolding padAnswer ◌when◌ ◌orElse◌
+  answered : there ≡ true → pad_answer n at (length b) record_length ≡ 0
+  unfolding pad_answer ◌when◌ ◌or_else◌
   answered e = rw (and_left _ _ e, le-ltb _ _ (leb-true _ _ (and_right _ _ e)))
 
-  refused : (inside : Bool) → between 1 deskLimit n ≡ inside → there ≡ false → padAnswer n at (length b) recordLength ≢ 0
-  unfolding padAnswer ◌when◌ ◌orElse◌ ◌and◌
+  refused : (inside : Bool) → between 1 desk_limit n ≡ inside → there ≡ false → pad_answer n at (length b) record_length ≢ 0
+  unfolding pad_answer ◌when◌ ◌or_else◌ ◌and◌
   refused false out e z = omega (arith, rw out at z)
   refused true within e z = omega (arith, rw (within, lt-ltb _ _ (leb-false _ _ (rw within at e))) at z)
 
-  by-test : (t : Bool) → there ≡ t → Listed (afterPad n at b (replicate recordLength 0)) (bodyRecord n b at)
-  unfolding afterPad bodyRecord between
-  by-test true e =
+  by_test : (t : Bool) → there ≡ t → Listed (after_pad n at b (replicate record_length 0)) (body_record n b at)
+  unfolding after_pad body_record between
+  by_test true e =
       rw (
         e,
-        when-accepted _ (sets (replicate recordLength 0) 0 (recordNumbers R)) (replicate recordLength 0) (answered e),
-        all-numbers R (length-shares n (bodyView n b at)) (length-tallies n (bodyView n b at)),
+        when_accepted _ (sets (replicate record_length 0) 0 (record_numbers R)) (replicate record_length 0) (answered e),
+        all_numbers R (length_shares n (body_view n b at)) (length_tallies n (body_view n b at)),
       )
-      (numbers-listed (leb-true _ _ (and_right _ _ (and_left _ _ e))))
-  by-test false e = rw (e, when-refused _ (sets (replicate recordLength 0) 0 (recordNumbers R)) (replicate recordLength 0) (refused _ refl e)) zeros-listed
+      (numbers_listed (leb-true _ _ (and_right _ _ (and_left _ _ e))))
+  by_test false e = rw (e, when_refused _ (sets (replicate record_length 0) 0 (record_numbers R)) (replicate record_length 0) (refused _ refl e)) zeros_listed
 
-  pub padded-listed : {l : List ℕ} → l ≡ afterPad n at b (replicate recordLength 0) → Listed l (bodyRecord n b at)
-  padded-listed e = rw e (by-test _ refl)
+  pub padded_listed : {l : List ℕ} → l ≡ after_pad n at b (replicate record_length 0) → Listed l (body_record n b at)
+  padded_listed e = rw e (by_test _ refl)

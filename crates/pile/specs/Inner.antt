@@ -2,19 +2,19 @@
 -- Assumes nothing.
 use Rattle.std.specs.Prelude.{ℕ, ◌≡◌, Bool, false, List, replicate}
 use Rattle.rules.specs.Pile.{side_of}
-use Rattle.rules.specs.Acts.{Kind, side, receiverWrong}
-use Rattle.rules.specs.Layout.{actColumn}
-use Rattle.rules.specs.Record.{Record, recordAnswer}
-use Rattle.padding.specs.Lists.{recordNumbers, afterPack}
+use Rattle.rules.specs.Acts.{Kind, side, receiver_wrong}
+use Rattle.rules.specs.Layout.{act_column}
+use Rattle.rules.specs.Record.{Record, record_answer}
+use Rattle.padding.specs.Lists.{record_numbers, after_pack}
 
 -- the record's own answer, and the body that its list packs to, at the start of bytes that have room for any
 pub record PackedAs (r : Record) (answer : ℕ) (body : List ℕ) : Type 0 where
-  pub answer-is : answer ≡ recordAnswer r
-  pub body_is : body ≡ afterPack (recordNumbers r) 0 (replicate 648 0)
+  pub answer_is : answer ≡ record_answer r
+  pub body_is : body ≡ after_pack (record_numbers r) 0 (replicate 648 0)
 
 -- The arguments of the function that enters all four acts are those of an act of this kind: the side whose rights it needs, whether its
 -- receiver is wrong, and, where nothing before it refuses the act, the column of the tally that it adds to.
-pub record Means (r : Record) (sideNumber desk : ℕ) (wrong : Bool) (column : ℕ) (kind : Kind) : Type 0 where
-  pub side-is : side kind ≡ side_of sideNumber
-  pub receiver-is : receiverWrong r.n desk kind ≡ wrong
-  pub column-is : recordAnswer r ≡ 0 → wrong ≡ false → actColumn 8 kind ≡ column
+pub record Means (r : Record) (side_number desk : ℕ) (wrong : Bool) (column : ℕ) (kind : Kind) : Type 0 where
+  pub side_is : side kind ≡ side_of side_number
+  pub receiver_is : receiver_wrong r.n desk kind ≡ wrong
+  pub column_is : record_answer r ≡ 0 → wrong ≡ false → act_column 8 kind ≡ column

@@ -4,6 +4,6 @@ use Rattle.rules.specs.Refusals.{Reply, refused, value}
 use Rattle.pile.specs.declared.Amount.{Amount}
 use Rattle.pile.specs.declared.Amount.TheVariants.{Tonnes, Refused}
 
-abbrev pub asReply : Amount → Reply
-asReply (Tonnes x) = value x
-asReply (Refused answer) = refused answer
+abbrev pub as_reply : Amount → Reply
+as_reply (Tonnes x) = value x
+as_reply (Refused answer) = refused answer

@@ -3,5 +3,5 @@
 use Rattle.rules.specs.Record.{Record}
 use Rattle.pile.specs.declared.Pile.{Pile}
 
-abbrev pub asRecord : Pile → Record
-asRecord p = record { n = p.n; floor = p.floor; top = p.top; shares = p.shares; tallies = p.tallies }
+abbrev pub as_record : Pile → Record
+as_record p = record { n = p.n; floor = p.floor; top = p.top; shares = p.shares; tallies = p.tallies }

@@ -1,10 +1,10 @@
 // The acts on a record. Tip and draw spend rights of a side, the two gives give them: the side is a parameter, 0 for draw, any other for tip.
 ghost use Rattle.std.specs.Prelude.{◌≡◌, false, ◌+◌, ◌*◌, ◌≤◌, ◌<◌, get_or};
-ghost use Rattle.rules.specs.Pile.{side_of, tallyLimit};
+ghost use Rattle.rules.specs.Pile.{side_of, tally_limit};
 ghost use Rattle.rules.specs.Acts.{Kind, spend, give};
 ghost use Rattle.rules.specs.Layout.{column};
-ghost use Rattle.rules.specs.Record.{recordAnswer, recordActAnswer, recordAfterAct, rowPlaces};
-ghost use Rattle.pile.specs.View.{asRecord};
+ghost use Rattle.rules.specs.Record.{record_answer, record_act_answer, record_after_act, row_places};
+ghost use Rattle.pile.specs.View.{as_record};
 ghost use Rattle.pile.specs.Inner.{Means};
 
 use crate::check::body_of;
@@ -14,9 +14,9 @@ use audit::rights_in;
 
 // The answer of an act of a desk that needs rights of a side and adds to the tally at a column of the desk's row.
 pub(crate) fn act_answer(p: Pile, side: u8, desk: u8, wrong: bool, column: usize, amount: u32) -> u8
-    requires { column < rowPlaces }
-    ensures answer { (kind : Kind) → Means (asRecord p) side desk wrong column kind → result ≡ recordActAnswer desk kind amount (asRecord p) }
-    ensures room { result ≡ 0 → (recordAnswer (asRecord p) ≡ 0) × (wrong ≡ false) × (desk < 8) × (get_or p.tallies (desk * rowPlaces + column) 0 + amount ≤ tallyLimit) }
+    requires { column < row_places }
+    ensures answer { (kind : Kind) → Means (as_record p) side desk wrong column kind → result ≡ record_act_answer desk kind amount (as_record p) }
+    ensures room { result ≡ 0 → (record_answer (as_record p) ≡ 0) × (wrong ≡ false) × (desk < 8) × (get_or p.tallies (desk * row_places + column) 0 + amount ≤ tally_limit) }
 {
     let found = body_of(p);
     let own = found.answer;
@@ -38,8 +38,8 @@ pub(crate) fn act_answer(p: Pile, side: u8, desk: u8, wrong: bool, column: usize
 
 // The act itself: its answer, and the record after it, unaltered where it is refused.
 pub(crate) fn enter(p: Pile, side: u8, desk: u8, wrong: bool, column: usize, amount: u32) -> Outcome
-    requires { column < rowPlaces }
-    ensures { (kind : Kind) → Means (asRecord p) side desk wrong column kind → (result.answer ≡ recordActAnswer desk kind amount (asRecord p)) × (asRecord result.pile ≡ recordAfterAct desk kind amount (asRecord p)) }
+    requires { column < row_places }
+    ensures { (kind : Kind) → Means (as_record p) side desk wrong column kind → (result.answer ≡ record_act_answer desk kind amount (as_record p)) × (as_record result.pile ≡ record_after_act desk kind amount (as_record p)) }
 {
     let answer = act_answer(p, side, desk, wrong, column, amount);
     if answer != 0 {
@@ -56,8 +56,8 @@ pub(crate) fn enter(p: Pile, side: u8, desk: u8, wrong: bool, column: usize, amo
 
 // Tipping spends tip rights, and drawing draw rights.
 pub(crate) fn spend_side(p: Pile, side: u8, desk: u8, amount: u32) -> Outcome
-    ensures answer { result.answer ≡ recordActAnswer desk (spend (side_of side)) amount (asRecord p) }
-    ensures pile { asRecord result.pile ≡ recordAfterAct desk (spend (side_of side)) amount (asRecord p) }
+    ensures answer { result.answer ≡ record_act_answer desk (spend (side_of side)) amount (as_record p) }
+    ensures pile { as_record result.pile ≡ record_after_act desk (spend (side_of side)) amount (as_record p) }
 {
     if side == 0 {
         return enter(p, side, desk, false, 1, amount);
@@ -67,7 +67,7 @@ pub(crate) fn spend_side(p: Pile, side: u8, desk: u8, amount: u32) -> Outcome
 
 // The column of a side's gives to a receiver, where there is one.
 pub(crate) fn give_column(side: u8, receiver: u8) -> usize
-    ensures { (result < rowPlaces) × (receiver < 8 → result ≡ column 8 (side_of side) receiver) }
+    ensures { (result < row_places) × (receiver < 8 → result ≡ column 8 (side_of side) receiver) }
 {
     if Pile::DESKS <= receiver {
         return 0;
@@ -80,8 +80,8 @@ pub(crate) fn give_column(side: u8, receiver: u8) -> usize
 
 // A give of a side to a receiver.
 pub(crate) fn give_side(p: Pile, side: u8, desk: u8, receiver: u8, amount: u32) -> Outcome
-    ensures answer { result.answer ≡ recordActAnswer desk (give (side_of side) receiver) amount (asRecord p) }
-    ensures pile { asRecord result.pile ≡ recordAfterAct desk (give (side_of side) receiver) amount (asRecord p) }
+    ensures answer { result.answer ≡ record_act_answer desk (give (side_of side) receiver) amount (as_record p) }
+    ensures pile { as_record result.pile ≡ record_after_act desk (give (side_of side) receiver) amount (as_record p) }
 {
     let wrong = receiver_wrong(p.n, desk, receiver);
     let column = give_column(side, receiver);

@@ -1,5 +1,5 @@
 // A record is packed as the body of its n desks, which is judged and asked as those of a book are.
-ghost use Rattle.pile.specs.View.{asRecord};
+ghost use Rattle.pile.specs.View.{as_record};
 ghost use Rattle.pile.specs.Inner.{PackedAs};
 
 use crate::Pile;
@@ -15,7 +15,7 @@ pub(crate) struct Packed {
 }
 
 pub(crate) fn body_of(p: Pile) -> Packed
-    ensures { PackedAs (asRecord p) result.answer result.body }
+    ensures { PackedAs (as_record p) result.answer result.body }
 {
     let numbers = numbers_of(p);
     let mut body = [0u8; LONGEST_BODY];

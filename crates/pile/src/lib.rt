@@ -7,10 +7,10 @@ mod queries;
 ghost use Rattle.std.specs.Prelude.{◌≡◌};
 ghost use Rattle.rules.specs.Pile.{draw, tip};
 ghost use Rattle.rules.specs.Acts.{spend, give};
-ghost use Rattle.rules.specs.Record.{recordAnswer, bodyRecord, freshAnswer, freshRecord, zeroRecord, recordTonnageReply, recordRightsReply, recordActAnswer, recordAfterAct};
-ghost use Rattle.padding.specs.Lists.{recordNumbers};
-ghost use Rattle.pile.specs.View.{asRecord};
-ghost use Rattle.pile.specs.Replies.{asReply};
+ghost use Rattle.rules.specs.Record.{record_answer, body_record, fresh_answer, fresh_record, zero_record, record_tonnage_reply, record_rights_reply, record_act_answer, record_after_act};
+ghost use Rattle.padding.specs.Lists.{record_numbers};
+ghost use Rattle.pile.specs.View.{as_record};
+ghost use Rattle.pile.specs.Replies.{as_reply};
 
 use acts::{give_side, spend_side};
 use layout::limits;
@@ -62,8 +62,8 @@ impl Pile {
 
     // A fresh record, with all tallies 0; refused with 2 or 5, and then all zeros.
     pub fn fresh(n: u8, floor: u32, top: u32, shares: [u32; SHARES]) -> Outcome
-        ensures answer { result.answer ≡ freshAnswer n floor top shares }
-        ensures pile { asRecord result.pile ≡ freshRecord n floor top shares }
+        ensures answer { result.answer ≡ fresh_answer n floor top shares }
+        ensures pile { as_record result.pile ≡ fresh_record n floor top shares }
     {
         let pile = Pile {
             n,
@@ -84,7 +84,7 @@ impl Pile {
 
     // The record of all zeros, which a refused constructor or fetch hands back.
     pub fn zero() -> Pile
-        ensures { asRecord result ≡ zeroRecord }
+        ensures { as_record result ≡ zero_record }
     {
         Pile {
             n: 0,
@@ -97,7 +97,7 @@ impl Pile {
 
     // The record of the body of n desks at a position; where no such body is there, the record of all zeros, which every call on a record refuses with 2.
     pub fn of_body(bytes: &[u8], at: usize, n: u8) -> Pile
-        ensures { asRecord result ≡ bodyRecord n bytes.now at }
+        ensures { as_record result ≡ body_record n bytes.now at }
     {
         let mut numbers = [0u32; RECORD];
         pad(bytes, at, n, &mut numbers);
@@ -106,67 +106,67 @@ impl Pile {
 
     // The record as a list of numbers.
     pub fn numbers(self) -> [u32; RECORD]
-        ensures { result ≡ recordNumbers (asRecord self) }
+        ensures { result ≡ record_numbers (as_record self) }
     {
         numbers_of(self)
     }
 
     // The record's own refusal: 2, 5, 6 or 7, or 0.
     pub fn check(self) -> u8
-        ensures { result ≡ recordAnswer (asRecord self) }
+        ensures { result ≡ record_answer (as_record self) }
     {
         check_record(&numbers_of(self))
     }
 
     // A desk's draw rights; refused with 2, 5, 6, 7 or 11.
     pub fn draw_rights(self, desk: u8) -> Amount
-        ensures { asReply result ≡ recordRightsReply draw desk (asRecord self) }
+        ensures { as_reply result ≡ record_rights_reply draw desk (as_record self) }
     {
         rights_of(self, 0, desk)
     }
 
     // A desk's tip rights; refused with 2, 5, 6, 7 or 11.
     pub fn tip_rights(self, desk: u8) -> Amount
-        ensures { asReply result ≡ recordRightsReply tip desk (asRecord self) }
+        ensures { as_reply result ≡ record_rights_reply tip desk (as_record self) }
     {
         rights_of(self, 1, desk)
     }
 
     // The tonnage by the acts that the record holds; refused with 2, 5, 6 or 7.
     pub fn tonnage(self) -> Amount
-        ensures { asReply result ≡ recordTonnageReply (asRecord self) }
+        ensures { as_reply result ≡ record_tonnage_reply (as_record self) }
     {
         tonnage_of(self)
     }
 
     // The record after a desk tips; refused with 2, 5, 6, 7, 11, 13, 14 or 15, and then unaltered.
     pub fn tip(self, desk: u8, amount: u32) -> Outcome
-        ensures answer { result.answer ≡ recordActAnswer desk (spend tip) amount (asRecord self) }
-        ensures pile { asRecord result.pile ≡ recordAfterAct desk (spend tip) amount (asRecord self) }
+        ensures answer { result.answer ≡ record_act_answer desk (spend tip) amount (as_record self) }
+        ensures pile { as_record result.pile ≡ record_after_act desk (spend tip) amount (as_record self) }
     {
         spend_side(self, 1, desk, amount)
     }
 
     // The record after a desk draws; refused with 2, 5, 6, 7, 11, 13, 14 or 15, and then unaltered.
     pub fn draw(self, desk: u8, amount: u32) -> Outcome
-        ensures answer { result.answer ≡ recordActAnswer desk (spend draw) amount (asRecord self) }
-        ensures pile { asRecord result.pile ≡ recordAfterAct desk (spend draw) amount (asRecord self) }
+        ensures answer { result.answer ≡ record_act_answer desk (spend draw) amount (as_record self) }
+        ensures pile { as_record result.pile ≡ record_after_act desk (spend draw) amount (as_record self) }
     {
         spend_side(self, 0, desk, amount)
     }
 
     // The record after a desk gives draw rights; refused with 2, 5, 6, 7 or 11 to 15, and then unaltered.
     pub fn give_draw(self, desk: u8, receiver: u8, amount: u32) -> Outcome
-        ensures answer { result.answer ≡ recordActAnswer desk (give draw receiver) amount (asRecord self) }
-        ensures pile { asRecord result.pile ≡ recordAfterAct desk (give draw receiver) amount (asRecord self) }
+        ensures answer { result.answer ≡ record_act_answer desk (give draw receiver) amount (as_record self) }
+        ensures pile { as_record result.pile ≡ record_after_act desk (give draw receiver) amount (as_record self) }
     {
         give_side(self, 0, desk, receiver, amount)
     }
 
     // The record after a desk gives tip rights; refused with 2, 5, 6, 7 or 11 to 15, and then unaltered.
     pub fn give_tip(self, desk: u8, receiver: u8, amount: u32) -> Outcome
-        ensures answer { result.answer ≡ recordActAnswer desk (give tip receiver) amount (asRecord self) }
-        ensures pile { asRecord result.pile ≡ recordAfterAct desk (give tip receiver) amount (asRecord self) }
+        ensures answer { result.answer ≡ record_act_answer desk (give tip receiver) amount (as_record self) }
+        ensures pile { as_record result.pile ≡ record_after_act desk (give tip receiver) amount (as_record self) }
     {
         give_side(self, 1, desk, receiver, amount)
     }

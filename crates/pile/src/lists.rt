@@ -1,7 +1,7 @@
 // A record as a list of numbers, and a list of numbers as a record.
 ghost use Rattle.std.specs.Prelude.{◌≡◌, ◌≤◌, length, get_or};
-ghost use Rattle.padding.specs.Lists.{recordLength, recordNumbers, numbersRecord};
-ghost use Rattle.pile.specs.View.{asRecord};
+ghost use Rattle.padding.specs.Lists.{record_length, record_numbers, numbers_record};
+ghost use Rattle.pile.specs.View.{as_record};
 
 use crate::{Pile, SHARES, TALLIES};
 use padding::runs::copy_run;
@@ -9,7 +9,7 @@ use padding::{RECORD, SHARES_AT, TALLIES_AT};
 
 // The record's numbers.
 pub(crate) fn numbers_of(pile: Pile) -> [u32; RECORD]
-    ensures { result ≡ recordNumbers (asRecord pile) }
+    ensures { result ≡ record_numbers (as_record pile) }
 {
     let mut numbers = [0u32; RECORD];
     numbers[0] = pile.n as u32;
@@ -23,8 +23,8 @@ pub(crate) fn numbers_of(pile: Pile) -> [u32; RECORD]
 }
 
 fn shares_of(numbers: &[u32]) -> [u32; SHARES]
-    requires { length numbers.now ≡ recordLength }
-    ensures { result ≡ (numbersRecord numbers.now).shares }
+    requires { length numbers.now ≡ record_length }
+    ensures { result ≡ (numbers_record numbers.now).shares }
 {
     let mut shares = [0u32; SHARES];
     copy_run(&mut shares, 0, numbers, SHARES_AT, SHARES);
@@ -32,8 +32,8 @@ fn shares_of(numbers: &[u32]) -> [u32; SHARES]
 }
 
 fn tallies_of(numbers: &[u32]) -> [u32; TALLIES]
-    requires { length numbers.now ≡ recordLength }
-    ensures { result ≡ (numbersRecord numbers.now).tallies }
+    requires { length numbers.now ≡ record_length }
+    ensures { result ≡ (numbers_record numbers.now).tallies }
 {
     let mut tallies = [0u32; TALLIES];
     copy_run(&mut tallies, 0, numbers, TALLIES_AT, TALLIES);
@@ -42,8 +42,8 @@ fn tallies_of(numbers: &[u32]) -> [u32; TALLIES]
 
 // A list of a record's length as a record. The struct's n has one byte.
 pub(crate) fn record_of(numbers: &[u32]) -> Pile
-    requires { (length numbers.now ≡ recordLength) × (get_or numbers.now 0 0 ≤ 8) }
-    ensures { asRecord result ≡ numbersRecord numbers.now }
+    requires { (length numbers.now ≡ record_length) × (get_or numbers.now 0 0 ≤ 8) }
+    ensures { as_record result ≡ numbers_record numbers.now }
 {
     let shares = shares_of(numbers);
     let tallies = tallies_of(numbers);

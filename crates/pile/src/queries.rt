@@ -1,9 +1,9 @@
 // Rights and tonnage of a record, asked of its body. The side is a parameter: 0 for draw, any other for tip.
 ghost use Rattle.std.specs.Prelude.{◌≡◌};
 ghost use Rattle.rules.specs.Pile.{side_of};
-ghost use Rattle.rules.specs.Record.{recordTonnageReply, recordRightsReply};
-ghost use Rattle.pile.specs.View.{asRecord};
-ghost use Rattle.pile.specs.Replies.{asReply};
+ghost use Rattle.rules.specs.Record.{record_tonnage_reply, record_rights_reply};
+ghost use Rattle.pile.specs.View.{as_record};
+ghost use Rattle.pile.specs.Replies.{as_reply};
 
 use crate::check::body_of;
 use crate::{Amount, Pile};
@@ -11,7 +11,7 @@ use audit::{rights_in, tonnage_in};
 
 // Rights of a side at a desk.
 pub(crate) fn rights_of(p: Pile, side: u8, desk: u8) -> Amount
-    ensures { asReply result ≡ recordRightsReply (side_of side) desk (asRecord p) }
+    ensures { as_reply result ≡ record_rights_reply (side_of side) desk (as_record p) }
 {
     let found = body_of(p);
     let answer = found.answer;
@@ -27,7 +27,7 @@ pub(crate) fn rights_of(p: Pile, side: u8, desk: u8) -> Amount
 
 // The tonnage by the acts that the record holds.
 pub(crate) fn tonnage_of(p: Pile) -> Amount
-    ensures { asReply result ≡ recordTonnageReply (asRecord p) }
+    ensures { as_reply result ≡ record_tonnage_reply (as_record p) }
 {
     let found = body_of(p);
     let answer = found.answer;

@@ -5,7 +5,7 @@ use native.Mathlib.Omega.{arith}
 use mathlib.Core.Path.{◌≡◌, refl, sym, ◌∙◌}
 use mathlib.Core.List.{List}
 use lib.ListN.{length, set, length-set}
-use Rattle.rules.proofs.Loops.Partly.{partly_none, partly-next}
+use Rattle.rules.proofs.Loops.Partly.{partly_none, partly_next}
 use Rattle.pitbook.specs.Contents.{filled}
 
 pub record Filling (f : ℕ → ℕ) (before : List ℕ) (p k : ℕ) (l : List ℕ) : Type 0 where
@@ -17,13 +17,13 @@ module _ {f : ℕ → ℕ} {before : List ℕ} {p : ℕ} where
   pub none_filled : Filling f before p 0 before
   none_filled = record { counted = omega arith; long = refl; is = sym (partly_none f before) }
 
-  pub next-filled : {k x : ℕ} {l : List ℕ} → Filling f before p k l → k < p → p ≤ length before → x ≡ f k → Filling f before p (k + 1) (set l k x)
-  next-filled {k} {x} {l} w k<p room e =
+  pub next_filled : {k x : ℕ} {l : List ℕ} → Filling f before p k l → k < p → p ≤ length before → x ≡ f k → Filling f before p (k + 1) (set l k x)
+  next_filled {k} {x} {l} w k<p room e =
       record {
         counted = omega arith;
         long = length-set l k x ∙ w.long;
-        is = rw (e, w.is) (partly-next f before k (omega arith));
+        is = rw (e, w.is) (partly_next f before k (omega arith));
       }
 
-  pub all-filled : {k : ℕ} {l : List ℕ} → Filling f before p k l → p ≤ k → l ≡ filled p f before
-  all-filled {k} w h = let done : k ≡ p = omega arith in rw done at w.is
+  pub all_filled : {k : ℕ} {l : List ℕ} → Filling f before p k l → p ≤ k → l ≡ filled p f before
+  all_filled {k} w h = let done : k ≡ p = omega arith in rw done at w.is

@@ -2,8 +2,8 @@
 -- Assumes nothing.
 use Rattle.std.specs.Prelude.{ℕ, List}
 use Rattle.rules.specs.Refusals.{done, Reply, refused, value}
-use Rattle.rules.specs.Layout.{bodyLength, desks}
-use Rattle.rules.specs.Book.{fetchAnswer, bodyStart}
+use Rattle.rules.specs.Layout.{body_length, desks}
+use Rattle.rules.specs.Book.{fetch_answer, body_start}
 
 -- a reply as its number: the refusal's, or 0
 abbrev pub answer_of : Reply → ℕ
@@ -16,8 +16,8 @@ value_of (refused answer) before = before
 value_of (value x) before = x
 
 -- the two lent numbers that tell the body of a pile: where it starts in the book, and its length; as they were where fetch is refused
-unfoldable pub startOr : List ℕ → ℕ → ℕ → ℕ
-startOr b number before = done (fetchAnswer b number) (bodyStart b number) before
+unfoldable pub start_or : List ℕ → ℕ → ℕ → ℕ
+start_or b number before = done (fetch_answer b number) (body_start b number) before
 
-unfoldable pub lengthOr : List ℕ → ℕ → ℕ → ℕ
-lengthOr b number before = done (fetchAnswer b number) (bodyLength (desks b)) before
+unfoldable pub length_or : List ℕ → ℕ → ℕ → ℕ
+length_or b number before = done (fetch_answer b number) (body_length (desks b)) before

@@ -3,15 +3,15 @@ ghost use Rattle.std.specs.Prelude.{◌≡◌};
 ghost use Rattle.rules.specs.Refusals.{done};
 ghost use Rattle.rules.specs.Pile.{draw, tip};
 ghost use Rattle.rules.specs.Acts.{spend, give};
-ghost use Rattle.rules.specs.Book.{actAnswer, afterAct};
-ghost use Rattle.rules.specs.Take.{takeAnswer, afterTake, takeReport};
+ghost use Rattle.rules.specs.Book.{act_answer, after_act};
+ghost use Rattle.rules.specs.Take.{take_answer, after_take, take_report};
 ghost use Rattle.desk.specs.Kinds.{act};
 
 // A desk tips onto a pile; refused with 1 to 7 for the book, 11, 10, 13, 14 or 15.
 #[unsafe(no_mangle)]
 pub extern "C" fn pit_tip(book: &mut [u8], desk: u8, pile: u16, amount: u32) -> u8
-    ensures answer { result ≡ actAnswer desk (act (spend tip) pile amount) book.old }
-    ensures book { book.new ≡ afterAct desk (act (spend tip) pile amount) book.old }
+    ensures answer { result ≡ act_answer desk (act (spend tip) pile amount) book.old }
+    ensures book { book.new ≡ after_act desk (act (spend tip) pile amount) book.old }
 {
     desk::tip(book, desk, pile, amount)
 }
@@ -19,8 +19,8 @@ pub extern "C" fn pit_tip(book: &mut [u8], desk: u8, pile: u16, amount: u32) -> 
 // A desk draws from a pile; refused with 1 to 7 for the book, 11, 10, 13, 14 or 15.
 #[unsafe(no_mangle)]
 pub extern "C" fn pit_draw(book: &mut [u8], desk: u8, pile: u16, amount: u32) -> u8
-    ensures answer { result ≡ actAnswer desk (act (spend draw) pile amount) book.old }
-    ensures book { book.new ≡ afterAct desk (act (spend draw) pile amount) book.old }
+    ensures answer { result ≡ act_answer desk (act (spend draw) pile amount) book.old }
+    ensures book { book.new ≡ after_act desk (act (spend draw) pile amount) book.old }
 {
     desk::draw(book, desk, pile, amount)
 }
@@ -34,8 +34,8 @@ pub extern "C" fn pit_give_draw(
     receiver: u8,
     amount: u32,
 ) -> u8
-    ensures answer { result ≡ actAnswer desk (act (give draw receiver) pile amount) book.old }
-    ensures book { book.new ≡ afterAct desk (act (give draw receiver) pile amount) book.old }
+    ensures answer { result ≡ act_answer desk (act (give draw receiver) pile amount) book.old }
+    ensures book { book.new ≡ after_act desk (act (give draw receiver) pile amount) book.old }
 {
     desk::give_draw(book, desk, pile, receiver, amount)
 }
@@ -49,8 +49,8 @@ pub extern "C" fn pit_give_tip(
     receiver: u8,
     amount: u32,
 ) -> u8
-    ensures answer { result ≡ actAnswer desk (act (give tip receiver) pile amount) book.old }
-    ensures book { book.new ≡ afterAct desk (act (give tip receiver) pile amount) book.old }
+    ensures answer { result ≡ act_answer desk (act (give tip receiver) pile amount) book.old }
+    ensures book { book.new ≡ after_act desk (act (give tip receiver) pile amount) book.old }
 {
     desk::give_tip(book, desk, pile, receiver, amount)
 }
@@ -59,9 +59,9 @@ pub extern "C" fn pit_give_tip(
 // book, 21 to 27 for the copy, then 11, 30, and by pile and desk 31 or 32.
 #[unsafe(no_mangle)]
 pub extern "C" fn pit_take(own: &mut [u8], copy: &[u8], desk: u8, changed: &mut u32) -> u8
-    ensures answer { result ≡ takeAnswer desk own.old copy.now }
-    ensures book { own.new ≡ afterTake desk own.old copy.now }
-    ensures changed { changed.new ≡ done (takeAnswer desk own.old copy.now) (takeReport desk own.old copy.now) changed.old }
+    ensures answer { result ≡ take_answer desk own.old copy.now }
+    ensures book { own.new ≡ after_take desk own.old copy.now }
+    ensures changed { changed.new ≡ done (take_answer desk own.old copy.now) (take_report desk own.old copy.now) changed.old }
 {
     let taken = take::take(own, copy, desk);
     let refusal = taken.answer;

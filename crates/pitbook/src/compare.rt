@@ -1,6 +1,6 @@
 // What comparing two rows of a desk tells.
 ghost use Rattle.std.specs.Prelude.{◌≡◌};
-ghost use Rattle.rules.specs.Rows.{compared, orderReply};
+ghost use Rattle.rules.specs.Rows.{compared, order_reply};
 ghost use Rattle.pitbook.specs.Queries.{answer_of, value_of};
 
 use rows::{Comparison, compare};
@@ -9,8 +9,8 @@ use rows::{Comparison, compare};
 // where they differ in length or have the length of no row.
 #[unsafe(no_mangle)]
 pub extern "C" fn pit_compare(mine: &[u8], copy: &[u8], order: &mut u32) -> u8
-    ensures answer { result ≡ answer_of (orderReply (compared mine.now copy.now)) }
-    ensures order { order.new ≡ value_of (orderReply (compared mine.now copy.now)) order.old }
+    ensures answer { result ≡ answer_of (order_reply (compared mine.now copy.now)) }
+    ensures order { order.new ≡ value_of (order_reply (compared mine.now copy.now)) order.old }
 {
     match compare(mine, copy) {
         Comparison::Alike => {

@@ -1,7 +1,7 @@
 // The contents of a book, filled into two lists that the caller lends.
 ghost use Rattle.std.specs.Prelude.{◌≡◌};
-ghost use Rattle.rules.specs.Layout.{pileNumber, position};
-ghost use Rattle.pitbook.specs.Contents.{listsAnswer, filled, afterNumbers, afterPositions};
+ghost use Rattle.rules.specs.Layout.{pile_number, position};
+ghost use Rattle.pitbook.specs.Contents.{lists_answer, filled, after_numbers, after_positions};
 ghost use Rattle.pitbook.specs.Inner.{RoomFor};
 
 use book::check;
@@ -11,7 +11,7 @@ use layout::head::head_of;
 // The first p entries of the contents: their pile numbers into one list, their positions into the other.
 fn put_entries(book: &[u8], p: u8, numbers: &mut [u32], positions: &mut [u32])
     requires { RoomFor p numbers.old positions.old }
-    ensures numbers { numbers.new ≡ filled p (pileNumber book.now) numbers.old }
+    ensures numbers { numbers.new ≡ filled p (pile_number book.now) numbers.old }
     ensures positions { positions.new ≡ filled p (position book.now) positions.old }
 {
     let mut k: u8 = 0;
@@ -26,9 +26,9 @@ fn put_entries(book: &[u8], p: u8, numbers: &mut [u32], positions: &mut [u32])
 // The contents of a book, in its order; refused with 1 to 7 or, where either list is shorter than the contents, 8. Entries past the contents stay.
 #[unsafe(no_mangle)]
 pub extern "C" fn pit_contents(book: &[u8], numbers: &mut [u32], positions: &mut [u32]) -> u8
-    ensures answer { result ≡ listsAnswer book.now numbers.old positions.old }
-    ensures numbers { numbers.new ≡ afterNumbers book.now numbers.old positions.old }
-    ensures positions { positions.new ≡ afterPositions book.now numbers.old positions.old }
+    ensures answer { result ≡ lists_answer book.now numbers.old positions.old }
+    ensures numbers { numbers.new ≡ after_numbers book.now numbers.old positions.old }
+    ensures positions { positions.new ≡ after_positions book.now numbers.old positions.old }
 {
     let own = check(book);
     if own != 0 {

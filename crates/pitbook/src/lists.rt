@@ -1,7 +1,7 @@
 // The bridge's list of tickets against the desk's: four counts, into numbers that the caller lends.
 ghost use Rattle.std.specs.Prelude.{◌≡◌};
 ghost use Rattle.rules.specs.Refusals.{done};
-ghost use Rattle.reconcile.specs.Lists.{reconcileAnswer, reconciliation};
+ghost use Rattle.reconcile.specs.Lists.{reconcile_answer, reconciliation};
 
 use reconcile::reconcile;
 
@@ -15,11 +15,11 @@ pub extern "C" fn pit_reconcile(
     only_bridge: &mut u32,
     only_desk: &mut u32,
 ) -> u8
-    ensures answer { result ≡ reconcileAnswer bridge.now desk.now }
-    ensures alike { alike.new ≡ done (reconcileAnswer bridge.now desk.now) (reconciliation bridge.now desk.now).alike alike.old }
-    ensures differing { differing.new ≡ done (reconcileAnswer bridge.now desk.now) (reconciliation bridge.now desk.now).differing differing.old }
-    ensures only_bridge { only_bridge.new ≡ done (reconcileAnswer bridge.now desk.now) (reconciliation bridge.now desk.now).only_bridge only_bridge.old }
-    ensures only_desk { only_desk.new ≡ done (reconcileAnswer bridge.now desk.now) (reconciliation bridge.now desk.now).only_desk only_desk.old }
+    ensures answer { result ≡ reconcile_answer bridge.now desk.now }
+    ensures alike { alike.new ≡ done (reconcile_answer bridge.now desk.now) (reconciliation bridge.now desk.now).alike alike.old }
+    ensures differing { differing.new ≡ done (reconcile_answer bridge.now desk.now) (reconciliation bridge.now desk.now).differing differing.old }
+    ensures only_bridge { only_bridge.new ≡ done (reconcile_answer bridge.now desk.now) (reconciliation bridge.now desk.now).only_bridge only_bridge.old }
+    ensures only_desk { only_desk.new ≡ done (reconcile_answer bridge.now desk.now) (reconciliation bridge.now desk.now).only_desk only_desk.old }
 {
     let counts = reconcile(bridge, desk);
     let refusal = counts.answer;

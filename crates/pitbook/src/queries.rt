@@ -1,10 +1,10 @@
 // What is asked of a pile: rights, tonnage, what a desk can be sure of, and where its body lies. The result goes into numbers that the caller lends.
 ghost use Rattle.std.specs.Prelude.{◌≡◌};
 ghost use Rattle.rules.specs.Pile.{draw, tip};
-ghost use Rattle.rules.specs.Book.{fetchAnswer, tonnageReply, rightsReply};
-ghost use Rattle.rules.specs.Bounds.{boundReply};
-ghost use Rattle.pile.specs.Replies.{asReply};
-ghost use Rattle.pitbook.specs.Queries.{answer_of, value_of, startOr, lengthOr};
+ghost use Rattle.rules.specs.Book.{fetch_answer, tonnage_reply, rights_reply};
+ghost use Rattle.rules.specs.Bounds.{bound_reply};
+ghost use Rattle.pile.specs.Replies.{as_reply};
+ghost use Rattle.pitbook.specs.Queries.{answer_of, value_of, start_or, length_or};
 
 use book::{draw_rights, seek, tip_rights, tonnage};
 use bounds::{least, most};
@@ -13,8 +13,8 @@ use pile::Amount;
 
 // A query's reply, as a number and into a lent one.
 fn hand_out(reply: Amount, out: &mut u32) -> u8
-    ensures answer { result ≡ answer_of (asReply reply) }
-    ensures out { out.new ≡ value_of (asReply reply) out.old }
+    ensures answer { result ≡ answer_of (as_reply reply) }
+    ensures out { out.new ≡ value_of (as_reply reply) out.old }
 {
     match reply {
         Amount::Tonnes(tonnes) => {
@@ -28,8 +28,8 @@ fn hand_out(reply: Amount, out: &mut u32) -> u8
 // A desk's draw rights of a pile; refused with 1 to 7, 11 or 10.
 #[unsafe(no_mangle)]
 pub extern "C" fn pit_draw_rights(book: &[u8], desk: u8, pile: u16, out: &mut u32) -> u8
-    ensures answer { result ≡ answer_of (rightsReply draw desk book.now pile) }
-    ensures out { out.new ≡ value_of (rightsReply draw desk book.now pile) out.old }
+    ensures answer { result ≡ answer_of (rights_reply draw desk book.now pile) }
+    ensures out { out.new ≡ value_of (rights_reply draw desk book.now pile) out.old }
 {
     hand_out(draw_rights(book, desk, pile), out)
 }
@@ -37,8 +37,8 @@ pub extern "C" fn pit_draw_rights(book: &[u8], desk: u8, pile: u16, out: &mut u3
 // A desk's tip rights of a pile; refused with 1 to 7, 11 or 10.
 #[unsafe(no_mangle)]
 pub extern "C" fn pit_tip_rights(book: &[u8], desk: u8, pile: u16, out: &mut u32) -> u8
-    ensures answer { result ≡ answer_of (rightsReply tip desk book.now pile) }
-    ensures out { out.new ≡ value_of (rightsReply tip desk book.now pile) out.old }
+    ensures answer { result ≡ answer_of (rights_reply tip desk book.now pile) }
+    ensures out { out.new ≡ value_of (rights_reply tip desk book.now pile) out.old }
 {
     hand_out(tip_rights(book, desk, pile), out)
 }
@@ -46,8 +46,8 @@ pub extern "C" fn pit_tip_rights(book: &[u8], desk: u8, pile: u16, out: &mut u32
 // The tonnage of a pile by the acts that the book holds; refused with 1 to 7 or 10.
 #[unsafe(no_mangle)]
 pub extern "C" fn pit_tonnage(book: &[u8], pile: u16, out: &mut u32) -> u8
-    ensures answer { result ≡ answer_of (tonnageReply book.now pile) }
-    ensures out { out.new ≡ value_of (tonnageReply book.now pile) out.old }
+    ensures answer { result ≡ answer_of (tonnage_reply book.now pile) }
+    ensures out { out.new ≡ value_of (tonnage_reply book.now pile) out.old }
 {
     hand_out(tonnage(book, pile), out)
 }
@@ -55,8 +55,8 @@ pub extern "C" fn pit_tonnage(book: &[u8], pile: u16, out: &mut u32) -> u8
 // The least that a pile has by all acts made, as far as a desk can be sure; refused with 1 to 7, 11 or 10.
 #[unsafe(no_mangle)]
 pub extern "C" fn pit_least(book: &[u8], desk: u8, pile: u16, out: &mut u32) -> u8
-    ensures answer { result ≡ answer_of (boundReply draw desk book.now pile) }
-    ensures out { out.new ≡ value_of (boundReply draw desk book.now pile) out.old }
+    ensures answer { result ≡ answer_of (bound_reply draw desk book.now pile) }
+    ensures out { out.new ≡ value_of (bound_reply draw desk book.now pile) out.old }
 {
     hand_out(least(book, desk, pile), out)
 }
@@ -64,8 +64,8 @@ pub extern "C" fn pit_least(book: &[u8], desk: u8, pile: u16, out: &mut u32) -> 
 // The most that a pile has by all acts made, as far as a desk can be sure; refused with 1 to 7, 11 or 10.
 #[unsafe(no_mangle)]
 pub extern "C" fn pit_most(book: &[u8], desk: u8, pile: u16, out: &mut u32) -> u8
-    ensures answer { result ≡ answer_of (boundReply tip desk book.now pile) }
-    ensures out { out.new ≡ value_of (boundReply tip desk book.now pile) out.old }
+    ensures answer { result ≡ answer_of (bound_reply tip desk book.now pile) }
+    ensures out { out.new ≡ value_of (bound_reply tip desk book.now pile) out.old }
 {
     hand_out(most(book, desk, pile), out)
 }
@@ -73,9 +73,9 @@ pub extern "C" fn pit_most(book: &[u8], desk: u8, pile: u16, out: &mut u32) -> u
 // Where the body of a pile starts, its contents position, and its length; refused with 1 to 7 or 10.
 #[unsafe(no_mangle)]
 pub extern "C" fn pit_body(book: &[u8], pile: u16, start: &mut usize, length: &mut usize) -> u8
-    ensures answer { result ≡ fetchAnswer book.now pile }
-    ensures start { start.new ≡ startOr book.now pile start.old }
-    ensures length { length.new ≡ lengthOr book.now pile length.old }
+    ensures answer { result ≡ fetch_answer book.now pile }
+    ensures start { start.new ≡ start_or book.now pile start.old }
+    ensures length { length.new ≡ length_or book.now pile length.old }
 {
     let found = seek(book, 0, pile);
     let refusal = found.answer;

@@ -1,7 +1,7 @@
 // Weighbridge tickets: read into numbers that the caller lends, and written from numbers.
 ghost use Rattle.std.specs.Prelude.{◌≡◌};
 ghost use Rattle.rules.specs.Refusals.{done};
-ghost use Rattle.ticket.specs.Tickets.{asTicket, ticketOf, readAnswer, writeAnswer, afterWrite};
+ghost use Rattle.ticket.specs.Tickets.{as_ticket, ticket_of, read_answer, write_answer, after_write};
 
 use ticket::Ticket;
 
@@ -15,12 +15,12 @@ pub extern "C" fn pit_read_ticket(
     kind: &mut u8,
     desk: &mut u8,
 ) -> u8
-    ensures answer { result ≡ readAnswer bytes.now }
-    ensures number { number.new ≡ done (readAnswer bytes.now) (ticketOf bytes.now).number number.old }
-    ensures pile { pile.new ≡ done (readAnswer bytes.now) (ticketOf bytes.now).pile pile.old }
-    ensures tonnes { tonnes.new ≡ done (readAnswer bytes.now) (ticketOf bytes.now).tonnes tonnes.old }
-    ensures kind { kind.new ≡ done (readAnswer bytes.now) (ticketOf bytes.now).kind kind.old }
-    ensures desk { desk.new ≡ done (readAnswer bytes.now) (ticketOf bytes.now).desk desk.old }
+    ensures answer { result ≡ read_answer bytes.now }
+    ensures number { number.new ≡ done (read_answer bytes.now) (ticket_of bytes.now).number number.old }
+    ensures pile { pile.new ≡ done (read_answer bytes.now) (ticket_of bytes.now).pile pile.old }
+    ensures tonnes { tonnes.new ≡ done (read_answer bytes.now) (ticket_of bytes.now).tonnes tonnes.old }
+    ensures kind { kind.new ≡ done (read_answer bytes.now) (ticket_of bytes.now).kind kind.old }
+    ensures desk { desk.new ≡ done (read_answer bytes.now) (ticket_of bytes.now).desk desk.old }
 {
     let read = Ticket::read(bytes);
     let refusal = read.answer;
@@ -45,8 +45,8 @@ pub extern "C" fn pit_write_ticket(
     desk: u8,
     out: &mut [u8],
 ) -> u8
-    ensures answer { result ≡ writeAnswer (asTicket number pile tonnes kind desk) out.old }
-    ensures out { out.new ≡ afterWrite (asTicket number pile tonnes kind desk) out.old }
+    ensures answer { result ≡ write_answer (as_ticket number pile tonnes kind desk) out.old }
+    ensures out { out.new ≡ after_write (as_ticket number pile tonnes kind desk) out.old }
 {
     let ticket = Ticket {
         number,

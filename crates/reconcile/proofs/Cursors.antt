@@ -11,74 +11,74 @@ use mathlib.Core.List.{List}
 use lib.ListN.{length}
 use lib.Dec.{ltb}
 use Rattle.rules.specs.Loops.{◌and◌, every}
-use Rattle.rules.specs.Refusals.{◌orElse◌, first}
+use Rattle.rules.specs.Refusals.{◌or_else◌, first}
 use Rattle.ticket.specs.declared.Ticket.{Ticket}
 use Rattle.ticket.specs.declared.Reading.{Reading}
-use Rattle.ticket.specs.Tickets.{ticketLength, numberLimit}
+use Rattle.ticket.specs.Tickets.{ticket_length, number_limit}
 use Rattle.reconcile.specs.declared.cursor.Cursor.{Cursor}
-use Rattle.reconcile.specs.Lists.{ticketsIn}
-use Rattle.reconcile.specs.Inner.{readAt, cursorAt, Standing}
-use Rattle.reconcile.proofs.Readings.{read_below, read-end}
+use Rattle.reconcile.specs.Lists.{tickets_in}
+use Rattle.reconcile.specs.Inner.{read_at, cursor_at, Standing}
+use Rattle.reconcile.proofs.Readings.{read_below, read_end}
 
-abbrev asCursor : ℕ → ℕ → Bool → Ticket → Cursor
-asCursor at answer rises head = record { at = at; answer = answer; rises = rises; head = head }
+abbrev as_cursor : ℕ → ℕ → Bool → Ticket → Cursor
+as_cursor at answer rises head = record { at = at; answer = answer; rises = rises; head = head }
 
 -- the first ticket has none before it
-pub started : (b : List ℕ) {r : Reading} → r ≡ readAt b 0 → asCursor 0 r.answer true r.ticket ≡ cursorAt b 0
-unfolding cursorAt first ◌orElse◌ every
-started b e = ap (λ (r : Reading). asCursor 0 r.answer true r.ticket) e
+pub started : (b : List ℕ) {r : Reading} → r ≡ read_at b 0 → as_cursor 0 r.answer true r.ticket ≡ cursor_at b 0
+unfolding cursor_at first ◌or_else◌ every
+started b e = ap (λ (r : Reading). as_cursor 0 r.answer true r.ticket) e
 
 module _ {b : List ℕ} {c : Cursor} (s : Standing b c) where
-  at-ticket : c.at / ticketLength * ticketLength ≡ c.at
-  unfolding cursorAt
-  at-ticket = sym (ap (λ (c : Cursor). c.at) s.is_at)
+  at_ticket : c.at / ticket_length * ticket_length ≡ c.at
+  unfolding cursor_at
+  at_ticket = sym (ap (λ (c : Cursor). c.at) s.is_at)
 
-  pub next-position : ((c.at + ticketLength) % ticketLength ≡ 0) × (length b % ticketLength ≡ 0)
-  next-position = (omega (arith, at-ticket), s.whole)
+  pub next_position : ((c.at + ticket_length) % ticket_length ≡ 0) × (length b % ticket_length ≡ 0)
+  next_position = (omega (arith, at_ticket), s.whole)
 
-  pub advanced : {r : Reading} {answer : ℕ} {rises : Bool} → r ≡ readAt b ((c.at + ticketLength) / ticketLength)
+  pub advanced : {r : Reading} {answer : ℕ} {rises : Bool} → r ≡ read_at b ((c.at + ticket_length) / ticket_length)
       → answer ≡ c.answer or_else r.answer → rises ≡ c.rises and ltb c.head.number r.ticket.number
-      → asCursor (c.at + ticketLength) answer rises r.ticket ≡ cursorAt b (c.at / ticketLength + 1)
-  unfolding cursorAt first every
-  advanced {r} read_is answer-is rises-is =
-      let k = c.at / ticketLength in
-      let next : (c.at + ticketLength) / ticketLength ≡ suc k = omega (arith, at-ticket) in
-      let r-is : r ≡ readAt b (suc k) = read_is ∙ ap (readAt b) next in
+      → as_cursor (c.at + ticket_length) answer rises r.ticket ≡ cursor_at b (c.at / ticket_length + 1)
+  unfolding cursor_at first every
+  advanced {r} read_is answer_is rises-is =
+      let k = c.at / ticket_length in
+      let next : (c.at + ticket_length) / ticket_length ≡ suc k = omega (arith, at_ticket) in
+      let r_is : r ≡ read_at b (suc k) = read_is ∙ ap (read_at b) next in
       let here = s.is_at in
-      let position : c.at + ticketLength ≡ suc k * ticketLength = omega (arith, at-ticket) in
-      let answers = answer-is ∙ ap₂ (λ (c : Cursor) (r : Reading). c.answer or_else r.answer) here r-is in
-      let rising = rises-is ∙ ap₂ (λ (c : Cursor) (r : Reading). c.rises and ltb c.head.number r.ticket.number) here r-is in
-      rw (add-one k) (λ i. asCursor (position i) (answers i) (rising i) (r-is i).ticket)
+      let position : c.at + ticket_length ≡ suc k * ticket_length = omega (arith, at_ticket) in
+      let answers = answer_is ∙ ap₂ (λ (c : Cursor) (r : Reading). c.answer or_else r.answer) here r_is in
+      let rising = rises-is ∙ ap₂ (λ (c : Cursor) (r : Reading). c.rises and ltb c.head.number r.ticket.number) here r_is in
+      rw (add-one k) (λ i. as_cursor (position i) (answers i) (rising i) (r_is i).ticket)
 
   -- the head: a ticket with a number that tickets have, or behind them the end
-  pub head-is : c.head ≡ (readAt b (c.at / ticketLength)).ticket
-  unfolding cursorAt
-  head-is = ap (λ (c : Cursor). c.head) s.is_at
+  pub head_is : c.head ≡ (read_at b (c.at / ticket_length)).ticket
+  unfolding cursor_at
+  head_is = ap (λ (c : Cursor). c.head) s.is_at
 
-  pub inside : c.at < length b → c.at / ticketLength < ticketsIn b
-  inside less = omega (arith, at-ticket, s.whole)
+  pub inside : c.at < length b → c.at / ticket_length < tickets_in b
+  inside less = omega (arith, at_ticket, s.whole)
 
-  pub head-below : c.at < length b → c.head.number ≤ numberLimit
-  head-below less = rw head-is (read_below b _ (inside less))
+  pub head_below : c.at < length b → c.head.number ≤ number_limit
+  head_below less = rw head_is (read_below b _ (inside less))
 
-  pub head-end : length b ≤ c.at → c.head.number ≡ suc numberLimit
-  head-end past = ap (λ (t : Ticket). t.number) head-is ∙ ap (λ (r : Reading). r.ticket.number) (read-end b _ (omega (arith, at-ticket, s.whole)))
+  pub head_end : length b ≤ c.at → c.head.number ≡ suc number_limit
+  head_end past = ap (λ (t : Ticket). t.number) head_is ∙ ap (λ (r : Reading). r.ticket.number) (read_end b _ (omega (arith, at_ticket, s.whole)))
 
-  pub head-most : c.head.number ≤ suc numberLimit
-  head-most = by_cases (dec_lt c.at (length b)) (λ less. omega (arith, head-below less)) (λ past. omega (arith, head-end (omega arith)))
+  pub head_most : c.head.number ≤ suc number_limit
+  head_most = by_cases (dec_lt c.at (length b)) (λ less. omega (arith, head_below less)) (λ past. omega (arith, head_end (omega arith)))
 
   -- a head below another is no end
-  pub at-a-ticket : {x : ℕ} → c.head.number < x → x ≤ suc numberLimit → c.at < length b
-  at-a-ticket less most = by_cases (dec_lt c.at (length b)) (λ l. l) (λ past. absurd (omega (arith, head-end (omega arith))))
+  pub at_a_ticket : {x : ℕ} → c.head.number < x → x ≤ suc number_limit → c.at < length b
+  at_a_ticket less most = by_cases (dec_lt c.at (length b)) (λ l. l) (λ past. absurd (omega (arith, head_end (omega arith))))
 
   -- one place further
-  pub moved : {c' : Cursor} → c.at < length b → c' ≡ cursorAt b (c.at / ticketLength + 1)
-      → (c'.at / ticketLength ≡ c.at / ticketLength + 1) × (c'.at ≡ c.at + ticketLength) × Standing b c'
-  unfolding cursorAt
+  pub moved : {c' : Cursor} → c.at < length b → c' ≡ cursor_at b (c.at / ticket_length + 1)
+      → (c'.at / ticket_length ≡ c.at / ticket_length + 1) × (c'.at ≡ c.at + ticket_length) × Standing b c'
+  unfolding cursor_at
   moved {c'} less e =
-      let position : c'.at ≡ (c.at / ticketLength + 1) * ticketLength = ap (λ (c : Cursor). c.at) e in
-      let place : c'.at / ticketLength ≡ c.at / ticketLength + 1 = omega arith in (
+      let position : c'.at ≡ (c.at / ticket_length + 1) * ticket_length = ap (λ (c : Cursor). c.at) e in
+      let place : c'.at / ticket_length ≡ c.at / ticket_length + 1 = omega arith in (
         place,
-        omega (arith, at-ticket),
-        record { whole = s.whole; short = s.short; within = omega (arith, at-ticket, s.whole); is_at = e ∙ ap (cursorAt b) (sym place) },
+        omega (arith, at_ticket),
+        record { whole = s.whole; short = s.short; within = omega (arith, at_ticket, s.whole); is_at = e ∙ ap (cursor_at b) (sym place) },
       )

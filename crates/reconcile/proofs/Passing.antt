@@ -8,20 +8,20 @@ use mathlib.Core.Bool.{Bool, true, false, cond, not}
 use mathlib.Core.Logic.{⊎_elim}
 use mathlib.Core.List.{List}
 use lib.ListN.{length}
-use Rattle.rules.specs.Loops.{◌and◌, oneIf, count}
-use Rattle.rules.proofs.Loops.Logic.{and-left-holds, and-left-fails}
+use Rattle.rules.specs.Loops.{◌and◌, one_if, count}
+use Rattle.rules.proofs.Loops.Logic.{and_left_holds, and_left_fails}
 use Rattle.rules.proofs.Loops.Counts.{count_next}
 use Rattle.ticket.specs.declared.Ticket.{Ticket}
-use Rattle.reconcile.specs.Counts.{ticketAt, number_at, sameTicket, has}
+use Rattle.reconcile.specs.Counts.{ticket_at, number_at, same_ticket, has}
 use Rattle.reconcile.specs.Laws.{RisingList}
-use Rattle.reconcile.specs.Inner.{nextNumber, PassedTickets}
-use Rattle.reconcile.proofs.Rising.{present, next-inside, above, at-most-end, below_end, next-above, absent, shared}
+use Rattle.reconcile.specs.Inner.{next_number, PassedTickets}
+use Rattle.reconcile.proofs.Rising.{present, next_inside, above, at_most_end, below_end, next_above, absent, shared}
 
 -- one place more, counted where the test holds there
-count-here : {c : ℕ} (k : ℕ) (t : ℕ → Bool) (here : Bool) → c ≡ count k t → t k ≡ here → cond here (c + 1) c ≡ count (k + 1) t
-count-here {c} k t here so_far e = sym (count_next k t ∙ ap₂ (λ (n : ℕ) (b : Bool). n + oneIf b) (sym so_far) e ∙ added here)
+count_here : {c : ℕ} (k : ℕ) (t : ℕ → Bool) (here : Bool) → c ≡ count k t → t k ≡ here → cond here (c + 1) c ≡ count (k + 1) t
+count_here {c} k t here so_far e = sym (count_next k t ∙ ap₂ (λ (n : ℕ) (b : Bool). n + one_if b) (sym so_far) e ∙ added here)
   where
-    added : (b : Bool) → c + oneIf b ≡ cond b (c + 1) c
+    added : (b : Bool) → c + one_if b ≡ cond b (c + 1) c
     added true = refl
     added false = omega arith
 
@@ -31,41 +31,41 @@ one_more P k before here i less = ⊎_elim (λ e. rw e here) (before i) (eq-or-l
 
 module _ {l m : List Ticket} (listed : RisingList l) (listed' : RisingList m) {j k alike differing only : ℕ} (p : PassedTickets l m j k alike differing only) where
   -- the own number is below the other's: it is in the own list alone
-  pub pass-own : ((i : ℕ) → i < k → number_at m i < nextNumber l j) → nextNumber l j < nextNumber m k → PassedTickets l m (j + 1) k alike differing (only + 1)
-  pass-own before less =
-      let here = next-inside l j (below_end l j (omega (arith, at-most-end listed' k))) in
+  pub pass_own : ((i : ℕ) → i < k → number_at m i < next_number l j) → next_number l j < next_number m k → PassedTickets l m (j + 1) k alike differing (only + 1)
+  pass_own before less =
+      let here = next_inside l j (below_end l j (omega (arith, at_most_end listed' k))) in
       let not_there = absent listed' k (number_at l j) (λ i b. omega (arith, here, before i b)) (omega (arith, here)) in
       record {
-        below = one_more (λ i. number_at l i < nextNumber m k) j p.below (omega (arith, here));
-        alike_is = count-here j _ false p.alike_is (and-left-fails not_there _);
-        differing-is = count-here j _ false p.differing-is (and-left-fails not_there _);
-        only-is = count-here j _ true p.only-is (ap not not_there);
+        below = one_more (λ i. number_at l i < next_number m k) j p.below (omega (arith, here));
+        alike_is = count_here j _ false p.alike_is (and_left_fails not_there _);
+        differing_is = count_here j _ false p.differing_is (and_left_fails not_there _);
+        only_is = count_here j _ true p.only_is (ap not not_there);
       }
 
   -- the other's number is below the own: nothing is to be counted here
-  pub pass-other : nextNumber m k < nextNumber l j → PassedTickets l m j (k + 1) alike differing only
-  pass-other less =
-      let inside = below_end m k (omega (arith, at-most-end listed j)) in
+  pub pass_other : next_number m k < next_number l j → PassedTickets l m j (k + 1) alike differing only
+  pass_other less =
+      let inside = below_end m k (omega (arith, at_most_end listed j)) in
       record {
-        below = λ i b. omega (arith, next-inside m k inside, p.below i b, next-above listed' k (k + 1) (omega arith) inside);
+        below = λ i b. omega (arith, next_inside m k inside, p.below i b, next_above listed' k (k + 1) (omega arith) inside);
         alike_is = p.alike_is;
-        differing-is = p.differing-is;
-        only-is = p.only-is;
+        differing_is = p.differing_is;
+        only_is = p.only_is;
       }
 
   -- both lists have the number
-  pub pass-both : j < length l → k < length m → nextNumber l j ≡ nextNumber m k → (same : Bool) → sameTicket (ticketAt l j) (ticketAt m k) ≡ same
+  pub pass_both : j < length l → k < length m → next_number l j ≡ next_number m k → (same : Bool) → same_ticket (ticket_at l j) (ticket_at m k) ≡ same
       → PassedTickets l m (j + 1) (k + 1) (cond same (alike + 1) alike) (cond (not same) (differing + 1) differing) only
-  pass-both inside inside' e same told =
-      let number : number_at l j ≡ number_at m k = sym (next-inside l j inside) ∙ e ∙ next-inside m k inside' in
+  pass_both inside inside' e same told =
+      let number : number_at l j ≡ number_at m k = sym (next_inside l j inside) ∙ e ∙ next_inside m k inside' in
       let there : has m (number_at l j) ≡ true = ap (has m) number ∙ present m k inside' in
       let shares-it = shared listed listed' j k inside inside' number ∙ told in
-      let above-it = next-above listed' k (k + 1) (omega arith) inside' in
+      let above-it = next_above listed' k (k + 1) (omega arith) inside' in
       record {
         below =
-            one_more (λ i. number_at l i < nextNumber m (k + 1)) j (λ i b. omega (arith, above listed i j b inside, number, above-it))
+            one_more (λ i. number_at l i < next_number m (k + 1)) j (λ i b. omega (arith, above listed i j b inside, number, above-it))
             (omega (arith, number, above-it));
-        alike_is = count-here j _ same p.alike_is (ap₂ ◌and◌ there shares-it ∙ sym (and-left-holds refl same));
-        differing-is = count-here j _ (not same) p.differing-is (ap₂ (λ (a b : Bool). a and not b) there shares-it ∙ sym (and-left-holds refl (not same)));
-        only-is = count-here j _ false p.only-is (ap not there);
+        alike_is = count_here j _ same p.alike_is (ap₂ ◌and◌ there shares-it ∙ sym (and_left_holds refl same));
+        differing_is = count_here j _ (not same) p.differing_is (ap₂ (λ (a b : Bool). a and not b) there shares-it ∙ sym (and_left_holds refl (not same)));
+        only_is = count_here j _ false p.only_is (ap not there);
       }

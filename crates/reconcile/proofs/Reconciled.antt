@@ -11,115 +11,115 @@ use mathlib.Core.List.{List}
 use lib.ListN.{length}
 use borrow.Author.Tests.{not-false, eqb-true, ltb-false}
 use Rattle.rules.specs.Loops.{◌or◌, sum, count}
-use Rattle.rules.specs.Refusals.{◌when◌, ◌orElse◌}
-use Rattle.rules.proofs.Loops.Logic.{or_left, or_right, or-neither}
-use Rattle.rules.proofs.Loops.Refusals.{orElse-first, orElse-rest, orElse-passes, orElse-under, not-met, when-not-done, when-accepted, when-refused}
-use Rattle.ticket.specs.Tickets.{ticketLength}
+use Rattle.rules.specs.Refusals.{◌when◌, ◌or_else◌}
+use Rattle.rules.proofs.Loops.Logic.{or_left, or_right, or_neither}
+use Rattle.rules.proofs.Loops.Refusals.{or_else_first, or_else_rest, or_else_passes, or_else_under, not_met, when_not_done, when_accepted, when_refused}
+use Rattle.ticket.specs.Tickets.{ticket_length}
 use Rattle.reconcile.specs.declared.Reconciliation.{Reconciliation}
 use Rattle.reconcile.specs.declared.cursor.Cursor.{Cursor}
 use Rattle.reconcile.specs.declared.walk.Walk.{Walk}
-use Rattle.reconcile.specs.Counts.{numbersRise}
-use Rattle.reconcile.specs.Lists.{listLimit, ticketsIn, ticketsOf, lengthWrong, ticketsAnswer, reconcileAnswer, reconciled, counted, reconciliation}
+use Rattle.reconcile.specs.Counts.{numbers_rise}
+use Rattle.reconcile.specs.Lists.{list_limit, tickets_in, tickets_of, length_wrong, tickets_answer, reconcile_answer, reconciled, counted, reconciliation}
 use Rattle.reconcile.specs.Laws.{CountsAddUp}
-use Rattle.reconcile.specs.Inner.{cursorAt, Standing, Sound, ListWalked, Walked}
-use Rattle.reconcile.proofs.Laws.{alike-along, differing-along, only-along, first-adds-up, second-adds-up}
-use Rattle.reconcile.proofs.Readings.{tickets-length, all_asked, all-rise, sound-listed}
-use Rattle.reconcile.proofs.Steps.{asWalk}
+use Rattle.reconcile.specs.Inner.{cursor_at, Standing, Sound, ListWalked, Walked}
+use Rattle.reconcile.proofs.Laws.{alike_along, differing_along, only_along, first_adds_up, second_adds_up}
+use Rattle.reconcile.proofs.Readings.{tickets_length, all_asked, all_rise, sound_listed}
+use Rattle.reconcile.proofs.Steps.{as_walk}
 
-pub sized : (b : List ℕ) → lengthWrong b ≡ false → (length b % ticketLength ≡ 0) × (length b ≤ listLimit * ticketLength)
-unfolding lengthWrong
+pub sized : (b : List ℕ) → length_wrong b ≡ false → (length b % ticket_length ≡ 0) × (length b ≤ list_limit * ticket_length)
+unfolding length_wrong
 sized b e = (eqb-true _ _ (not-false _ (or_left _ _ e)), ltb-false _ _ (or_right _ _ e))
 
 -- at the start nothing is passed
-side-begun : {own other : List ℕ} {c d : Cursor} → lengthWrong own ≡ false → c ≡ cursorAt own 0 → ListWalked own other c d 0 0 0
-unfolding cursorAt count sum
-side-begun {own} {c = c} e is-start =
+side_begun : {own other : List ℕ} {c d : Cursor} → length_wrong own ≡ false → c ≡ cursor_at own 0 → ListWalked own other c d 0 0 0
+unfolding cursor_at count sum
+side_begun {own} {c = c} e is-start =
     let at_first : c.at ≡ 0 = ap (λ (c : Cursor). c.at) is-start in
-    let place : c.at / ticketLength ≡ 0 = omega (arith, at_first) in
+    let place : c.at / ticket_length ≡ 0 = omega (arith, at_first) in
     record {
       standing =
-          record { whole = (sized own e).0; short = (sized own e).1; within = omega (arith, at_first); is_at = is-start ∙ ap (cursorAt own) (sym place) };
-      adds-up = sym place;
-      passed = λ s s'. rw place (record { below = λ i l. absurd (not-suc-le-zero l); alike_is = refl; differing-is = refl; only-is = refl });
+          record { whole = (sized own e).0; short = (sized own e).1; within = omega (arith, at_first); is_at = is-start ∙ ap (cursor_at own) (sym place) };
+      adds_up = sym place;
+      passed = λ s s'. rw place (record { below = λ i l. absurd (not-suc-le-zero l); alike_is = refl; differing_is = refl; only_is = refl });
     }
 
-pub begun : {b d : List ℕ} {at_bridge at-desk : Cursor} → lengthWrong b ≡ false → lengthWrong d ≡ false
-    → at_bridge ≡ cursorAt b 0 → at-desk ≡ cursorAt d 0 → Walked b d (asWalk at_bridge at-desk 0 0 0 0)
-begun e e' is-start is-start' = record { of-bridge = side-begun e is-start; of-desk = side-begun e' is-start' }
+pub begun : {b d : List ℕ} {at_bridge at_desk : Cursor} → length_wrong b ≡ false → length_wrong d ≡ false
+    → at_bridge ≡ cursor_at b 0 → at_desk ≡ cursor_at d 0 → Walked b d (as_walk at_bridge at_desk 0 0 0 0)
+begun e e' is-start is-start' = record { of_bridge = side_begun e is-start; of_desk = side_begun e' is-start' }
 
 -- at the end a cursor has the whole list's refusal, and whether it rises
 module _ {b : List ℕ} {c : Cursor} (s : Standing b c) (end : length b ≤ c.at) where
-  last-place : c.at / ticketLength ≡ ticketsIn b
-  last-place = omega (arith, s.within, end)
+  last_place : c.at / ticket_length ≡ tickets_in b
+  last_place = omega (arith, s.within, end)
 
-  whole-list : c.at / ticketLength ≡ length (ticketsOf b)
-  whole-list = last-place ∙ sym (tickets-length b)
+  whole_list : c.at / ticket_length ≡ length (tickets_of b)
+  whole_list = last_place ∙ sym (tickets_length b)
 
-  end-answer : c.answer ≡ ticketsAnswer b
-  unfolding cursorAt
-  end-answer = ap (λ (c : Cursor). c.answer) s.is_at ∙ ap (λ (k : ℕ). (cursorAt b k).answer) last-place ∙ all_asked b
+  end_answer : c.answer ≡ tickets_answer b
+  unfolding cursor_at
+  end_answer = ap (λ (c : Cursor). c.answer) s.is_at ∙ ap (λ (k : ℕ). (cursor_at b k).answer) last_place ∙ all_asked b
 
-  end-rises : ticketsAnswer b ≡ 0 → c.rises ≡ numbersRise (ticketsOf b)
-  unfolding cursorAt
-  end-rises right = ap (λ (c : Cursor). c.rises) s.is_at ∙ ap (λ (k : ℕ). (cursorAt b k).rises) last-place ∙ all-rise b right
+  end_rises : tickets_answer b ≡ 0 → c.rises ≡ numbers_rise (tickets_of b)
+  unfolding cursor_at
+  end_rises right = ap (λ (c : Cursor). c.rises) s.is_at ∙ ap (λ (k : ℕ). (cursor_at b k).rises) last_place ∙ all_rise b right
 
 -- an accepted pair of lists has nothing wrong in it
-pub sound-both : (b d : List ℕ) → reconcileAnswer b d ≡ 0 → Sound b × Sound d
-unfolding reconcileAnswer
-sound-both b d e =
-    let own = orElse-rest _ _ e in
-    let others = orElse-rest _ _ own in
-    let order = orElse-rest _ _ others in (
-      record { tickets-right = orElse-first _ _ own; rises = when-not-done 35 _ (orElse-first _ _ order) },
-      record { tickets-right = orElse-first _ _ others; rises = when-not-done 36 _ (orElse-rest _ _ order) },
+pub sound_both : (b d : List ℕ) → reconcile_answer b d ≡ 0 → Sound b × Sound d
+unfolding reconcile_answer
+sound_both b d e =
+    let own = or_else_rest _ _ e in
+    let others = or_else_rest _ _ own in
+    let order = or_else_rest _ _ others in (
+      record { tickets_right = or_else_first _ _ own; rises = when_not_done 35 _ (or_else_first _ _ order) },
+      record { tickets_right = or_else_first _ _ others; rises = when_not_done 36 _ (or_else_rest _ _ order) },
     )
 
 module _ {b d : List ℕ} {w : Walk} (p : Walked b d w) (end-bridge : length b ≤ w.bridge.at) (end-desk : length d ≤ w.desk.at) where
-  pub judged : lengthWrong b ≡ false → lengthWrong d ≡ false
-      → w.bridge.answer or_else w.desk.answer or_else 36 when not w.bridge.rises or_else 37 when not w.desk.rises ≡ reconcileAnswer b d
-  unfolding reconcileAnswer
+  pub judged : length_wrong b ≡ false → length_wrong d ≡ false
+      → w.bridge.answer or_else w.desk.answer or_else 36 when not w.bridge.rises or_else 37 when not w.desk.rises ≡ reconcile_answer b d
+  unfolding reconcile_answer
   judged e e' =
-      let mine = p.of-bridge.standing in
-      let theirs = p.of-desk.standing in
-      ap₂ (λ (x y : ℕ). x or_else y or_else 36 when not w.bridge.rises or_else 37 when not w.desk.rises) (end-answer mine end-bridge) (end-answer theirs end-desk)
-      ∙ orElse-under (ticketsAnswer b) (λ right. orElse-under (ticketsAnswer d) (λ right'.
-      ap₂ (λ (x y : Bool). 36 when not x or_else 37 when not y) (end-rises mine end-bridge right) (end-rises theirs end-desk right')))
-      ∙ sym (orElse-passes (not-met 3 (or-neither e e')) _)
+      let mine = p.of_bridge.standing in
+      let theirs = p.of_desk.standing in
+      ap₂ (λ (x y : ℕ). x or_else y or_else 36 when not w.bridge.rises or_else 37 when not w.desk.rises) (end_answer mine end-bridge) (end_answer theirs end-desk)
+      ∙ or_else_under (tickets_answer b) (λ right. or_else_under (tickets_answer d) (λ right'.
+      ap₂ (λ (x y : Bool). 36 when not x or_else 37 when not y) (end_rises mine end-bridge right) (end_rises theirs end-desk right')))
+      ∙ sym (or_else_passes (not_met 3 (or_neither e e')) _)
 
-  pub counts-right : reconcileAnswer b d ≡ 0 → reconciled 0 w.alike w.differing w.only_bridge w.only_desk ≡ counted (ticketsOf b) (ticketsOf d)
+  pub counts_right : reconcile_answer b d ≡ 0 → reconciled 0 w.alike w.differing w.only_bridge w.only_desk ≡ counted (tickets_of b) (tickets_of d)
   unfolding counted
-  counts-right e =
-      let (sound, sound') = sound-both b d e in
-      let mine = rw (whole-list p.of-bridge.standing end-bridge) at (p.of-bridge.passed sound sound') in
-      let theirs = rw (whole-list p.of-desk.standing end-desk) at (p.of-desk.passed sound' sound) in
+  counts_right e =
+      let (sound, sound') = sound_both b d e in
+      let mine = rw (whole_list p.of_bridge.standing end-bridge) at (p.of_bridge.passed sound sound') in
+      let theirs = rw (whole_list p.of_desk.standing end-desk) at (p.of_desk.passed sound' sound) in
       λ i.
-      reconciled 0 ((mine.alike_is ∙ sym (alike-along (sound-listed b sound) _)) i) ((mine.differing-is ∙ sym (differing-along (sound-listed b sound) _)) i)
-      ((mine.only-is ∙ sym (only-along (sound-listed b sound) _)) i) ((theirs.only-is ∙ sym (only-along (sound-listed d sound') _)) i)
+      reconciled 0 ((mine.alike_is ∙ sym (alike_along (sound_listed b sound) _)) i) ((mine.differing_is ∙ sym (differing_along (sound_listed b sound) _)) i)
+      ((mine.only_is ∙ sym (only_along (sound_listed b sound) _)) i) ((theirs.only_is ∙ sym (only_along (sound_listed d sound') _)) i)
 
 -- what is handed back
-module _ (b d : List ℕ) {answer : ℕ} (e : answer ≡ reconcileAnswer b d) where
-  pub handed-refused : answer ≢ 0 → reconciled answer 0 0 0 0 ≡ reconciliation b d
+module _ (b d : List ℕ) {answer : ℕ} (e : answer ≡ reconcile_answer b d) where
+  pub handed_refused : answer ≢ 0 → reconciled answer 0 0 0 0 ≡ reconciliation b d
   unfolding reconciliation
-  handed-refused refused = ap (λ (a : ℕ). reconciled a 0 0 0 0) e ∙ sym (when-refused _ _ _ (λ z. refused (e ∙ z)))
+  handed_refused refused = ap (λ (a : ℕ). reconciled a 0 0 0 0) e ∙ sym (when_refused _ _ _ (λ z. refused (e ∙ z)))
 
-  pub handed-done : answer ≡ 0 → counted (ticketsOf b) (ticketsOf d) ≡ reconciliation b d
+  pub handed_done : answer ≡ 0 → counted (tickets_of b) (tickets_of d) ≡ reconciliation b d
   unfolding reconciliation
-  handed-done accepted = sym (when-accepted _ _ _ (sym e ∙ accepted))
+  handed_done accepted = sym (when_accepted _ _ _ (sym e ∙ accepted))
 
-pub answer-told : (b d : List ℕ) → (reconciliation b d).answer ≡ reconcileAnswer b d
+pub answer_told : (b d : List ℕ) → (reconciliation b d).answer ≡ reconcile_answer b d
 unfolding reconciliation counted
-answer-told b d =
-    by_cases (ℕ_discrete (reconcileAnswer b d) 0) (λ e. ap (λ (r : Reconciliation). r.answer) (when-accepted _ _ _ e) ∙ sym e)
-    (λ refused. ap (λ (r : Reconciliation). r.answer) (when-refused _ _ _ refused))
+answer_told b d =
+    by_cases (ℕ_discrete (reconcile_answer b d) 0) (λ e. ap (λ (r : Reconciliation). r.answer) (when_accepted _ _ _ e) ∙ sym e)
+    (λ refused. ap (λ (r : Reconciliation). r.answer) (when_refused _ _ _ refused))
 
 -- so the laws of the counts are laws of what is handed back: each list's tickets are counted once
-pub counts-add-up : CountsAddUp
+pub counts_add_up : CountsAddUp
 unfolding reconciliation counted
-counts-add-up b d e =
-    let (sound, sound') = sound-both b d e in
-    rw (when-accepted _ (counted (ticketsOf b) (ticketsOf d)) _ e)
-    (first-adds-up _ _ (sound-listed b sound) ∙ tickets-length b, second-adds-up _ _ (sound-listed d sound') ∙ tickets-length d)
+counts_add_up b d e =
+    let (sound, sound') = sound_both b d e in
+    rw (when_accepted _ (counted (tickets_of b) (tickets_of d)) _ e)
+    (first_adds_up _ _ (sound_listed b sound) ∙ tickets_length b, second_adds_up _ _ (sound_listed d sound') ∙ tickets_length d)
 
-pub length-refused : (b d : List ℕ) → lengthWrong b or lengthWrong d ≡ true → 3 ≡ reconcileAnswer b d
-unfolding reconcileAnswer ◌when◌ ◌orElse◌
-length-refused b d wrong = rw wrong refl
+pub length_refused : (b d : List ℕ) → length_wrong b or length_wrong d ≡ true → 3 ≡ reconcile_answer b d
+unfolding reconcile_answer ◌when◌ ◌or_else◌
+length_refused b d wrong = rw wrong refl

@@ -9,88 +9,88 @@ use mathlib.Core.Logic.{by_cases}
 use mathlib.Core.List.{List}
 use lib.ListN.{length}
 use Rattle.ticket.specs.declared.Ticket.{Ticket}
-use Rattle.ticket.specs.Tickets.{ticketLength}
+use Rattle.ticket.specs.Tickets.{ticket_length}
 use Rattle.reconcile.specs.declared.cursor.Cursor.{Cursor}
 use Rattle.reconcile.specs.declared.walk.Walk.{Walk}
-use Rattle.reconcile.specs.Counts.{ticketAt, sameTicket}
-use Rattle.reconcile.specs.Lists.{listLimit, ticketsOf}
-use Rattle.reconcile.specs.Inner.{cursorAt, nextNumber, Standing, Sound, ListWalked, Walked}
-use Rattle.reconcile.proofs.SameTicket.{same-exchanged}
-use Rattle.reconcile.proofs.Passing.{pass-own, pass-other, pass-both}
-use Rattle.reconcile.proofs.Readings.{tickets-length, ticket-read, number_read, sound-listed}
-use Rattle.reconcile.proofs.Cursors.{head-is, inside, head-most, head-below, head-end, at-a-ticket, moved}
+use Rattle.reconcile.specs.Counts.{ticket_at, same_ticket}
+use Rattle.reconcile.specs.Lists.{list_limit, tickets_of}
+use Rattle.reconcile.specs.Inner.{cursor_at, next_number, Standing, Sound, ListWalked, Walked}
+use Rattle.reconcile.proofs.SameTicket.{same_exchanged}
+use Rattle.reconcile.proofs.Passing.{pass_own, pass_other, pass_both}
+use Rattle.reconcile.proofs.Readings.{tickets_length, ticket_read, number_read, sound_listed}
+use Rattle.reconcile.proofs.Cursors.{head_is, inside, head_most, head_below, head_end, at_a_ticket, moved}
 
-abbrev pub asWalk : Cursor → Cursor → ℕ → ℕ → ℕ → ℕ → Walk
-asWalk bridge desk alike differing onlyBridge onlyDesk =
+abbrev pub as_walk : Cursor → Cursor → ℕ → ℕ → ℕ → ℕ → Walk
+as_walk bridge desk alike differing onlyBridge onlyDesk =
     record { bridge = bridge; desk = desk; alike = alike; differing = differing; only_bridge = onlyBridge; only_desk = onlyDesk }
 
 -- of a list with nothing wrong in it the head is the next ticket
 module _ {b : List ℕ} {c : Cursor} (s : Standing b c) (sound : Sound b) where
-  head-number : c.head.number ≡ nextNumber (ticketsOf b) (c.at / ticketLength)
-  head-number = ap (λ (t : Ticket). t.number) (head-is s) ∙ number_read b sound.tickets-right _
+  head_number : c.head.number ≡ next_number (tickets_of b) (c.at / ticket_length)
+  head_number = ap (λ (t : Ticket). t.number) (head_is s) ∙ number_read b sound.tickets_right _
 
-  head-ticket : c.at < length b → c.head ≡ ticketAt (ticketsOf b) (c.at / ticketLength)
-  head-ticket less = head-is s ∙ ticket-read b sound.tickets-right _ (inside s less)
+  head_ticket : c.at < length b → c.head ≡ ticket_at (tickets_of b) (c.at / ticket_length)
+  head_ticket less = head_is s ∙ ticket_read b sound.tickets_right _ (inside s less)
 
-  head-inside : c.at < length b → c.at / ticketLength < length (ticketsOf b)
-  head-inside less = omega (arith, inside s less, tickets-length b)
+  head_inside : c.at < length b → c.at / ticket_length < length (tickets_of b)
+  head_inside less = omega (arith, inside s less, tickets_length b)
 
 -- a step, as one of the lists has it
 module _ {own other : List ℕ} {c d : Cursor} {alike differing only only' : ℕ}
     (mine : ListWalked own other c d alike differing only) (theirs : ListWalked other own d c alike differing only') where
   -- tickets are no more than a list can have
-  pub room : c.at < length own → alike + differing + only + 1 ≤ listLimit
-  room less = omega (arith, inside mine.standing less, mine.adds-up, mine.standing.short)
+  pub room : c.at < length own → alike + differing + only + 1 ≤ list_limit
+  room less = omega (arith, inside mine.standing less, mine.adds_up, mine.standing.short)
 
-  next-less : c.head.number < d.head.number → Sound own → Sound other
-      → nextNumber (ticketsOf own) (c.at / ticketLength) < nextNumber (ticketsOf other) (d.at / ticketLength)
-  next-less less s s' = omega (arith, head-number mine.standing s, head-number theirs.standing s')
+  next_less : c.head.number < d.head.number → Sound own → Sound other
+      → next_number (tickets_of own) (c.at / ticket_length) < next_number (tickets_of other) (d.at / ticket_length)
+  next_less less s s' = omega (arith, head_number mine.standing s, head_number theirs.standing s')
 
   -- its own number comes next, and is passed
   module _ (less : c.head.number < d.head.number) where
-    pub own-inside : c.at < length own
-    own-inside = at-a-ticket mine.standing less (head-most theirs.standing)
+    pub own_inside : c.at < length own
+    own_inside = at_a_ticket mine.standing less (head_most theirs.standing)
 
-    pub own-passed : {c' : Cursor} → c' ≡ cursorAt own (c.at / ticketLength + 1) → ListWalked own other c' d alike differing (only + 1)
-    own-passed e =
-        let (place, _, standing') = moved mine.standing own-inside e in
+    pub own_passed : {c' : Cursor} → c' ≡ cursor_at own (c.at / ticket_length + 1) → ListWalked own other c' d alike differing (only + 1)
+    own_passed e =
+        let (place, _, standing') = moved mine.standing own_inside e in
         record {
           standing = standing';
-          adds-up = omega (arith, place, mine.adds-up);
-          passed = λ s s'. rw place (pass-own (sound-listed own s) (sound-listed other s') (mine.passed s s') (theirs.passed s' s).below (next-less less s s'));
+          adds_up = omega (arith, place, mine.adds_up);
+          passed = λ s s'. rw place (pass_own (sound_listed own s) (sound_listed other s') (mine.passed s s') (theirs.passed s' s).below (next_less less s s'));
         }
 
     -- and so the other list has it
-    pub seen-passed : {c' : Cursor} → c' ≡ cursorAt own (c.at / ticketLength + 1) → ListWalked other own d c' alike differing only'
-    seen-passed e =
-        let (place, _, _) = moved mine.standing own-inside e in
+    pub seen_passed : {c' : Cursor} → c' ≡ cursor_at own (c.at / ticket_length + 1) → ListWalked other own d c' alike differing only'
+    seen_passed e =
+        let (place, _, _) = moved mine.standing own_inside e in
         record {
           standing = theirs.standing;
-          adds-up = theirs.adds-up;
-          passed = λ s' s. rw place (pass-other (sound-listed other s') (sound-listed own s) (theirs.passed s' s) (next-less less s s'));
+          adds_up = theirs.adds_up;
+          passed = λ s' s. rw place (pass_other (sound_listed other s') (sound_listed own s) (theirs.passed s' s) (next_less less s s'));
         }
 
   -- both have the number that comes next
   module _ (e : c.head.number ≡ d.head.number) (more : c.at + d.at < length own + length other) where
-    pub both-inside : c.at < length own
-    both-inside =
+    pub both_inside : c.at < length own
+    both_inside =
         by_cases (dec_lt c.at (length own)) (λ l. l)
-        (λ past. absurd (omega (arith, head-end mine.standing (omega arith), head-below theirs.standing (omega arith))))
+        (λ past. absurd (omega (arith, head_end mine.standing (omega arith), head_below theirs.standing (omega arith))))
 
-  both-passed : c.at < length own → d.at < length other → c.head.number ≡ d.head.number
-      → (same : Bool) → sameTicket c.head d.head ≡ same
-      → {c' d' : Cursor} → c' ≡ cursorAt own (c.at / ticketLength + 1) → d' ≡ cursorAt other (d.at / ticketLength + 1)
+  both_passed : c.at < length own → d.at < length other → c.head.number ≡ d.head.number
+      → (same : Bool) → same_ticket c.head d.head ≡ same
+      → {c' d' : Cursor} → c' ≡ cursor_at own (c.at / ticket_length + 1) → d' ≡ cursor_at other (d.at / ticket_length + 1)
       → ListWalked own other c' d' (cond same (alike + 1) alike) (cond (not same) (differing + 1) differing) only
-  both-passed inside-own inside-other e same told e₁ e₂ =
+  both_passed inside-own inside-other e same told e₁ e₂ =
       let (place, _, standing') = moved mine.standing inside-own e₁ in
       let (place', _, _) = moved theirs.standing inside-other e₂ in
       record {
         standing = standing';
-        adds-up = one_of_two same ∙ omega (arith, place, mine.adds-up);
-        passed = λ s s'. rw place (rw place' (pass-both (sound-listed own s) (sound-listed other s') (mine.passed s s')
-            (head-inside mine.standing s inside-own) (head-inside theirs.standing s' inside-other)
-            (sym (head-number mine.standing s) ∙ e ∙ head-number theirs.standing s')
-            same (ap₂ sameTicket (sym (head-ticket mine.standing s inside-own)) (sym (head-ticket theirs.standing s' inside-other)) ∙ told)));
+        adds_up = one_of_two same ∙ omega (arith, place, mine.adds_up);
+        passed = λ s s'. rw place (rw place' (pass_both (sound_listed own s) (sound_listed other s') (mine.passed s s')
+            (head_inside mine.standing s inside-own) (head_inside theirs.standing s' inside-other)
+            (sym (head_number mine.standing s) ∙ e ∙ head_number theirs.standing s')
+            same (ap₂ same_ticket (sym (head_ticket mine.standing s inside-own)) (sym (head_ticket theirs.standing s' inside-other)) ∙ told)));
       }
     where
       one_of_two : (same : Bool) → cond same (alike + 1) alike + cond (not same) (differing + 1) differing + only ≡ alike + differing + only + 1
@@ -98,17 +98,17 @@ module _ {own other : List ℕ} {c d : Cursor} {alike differing only only' : ℕ
       one_of_two false = omega arith
 
 -- and as both have it
-pub past-both : {b d : List ℕ} {w : Walk} → Walked b d w → w.bridge.at < length b → w.desk.at < length d → w.bridge.head.number ≡ w.desk.head.number
-    → (same : Bool) → sameTicket w.bridge.head w.desk.head ≡ same
-    → {c' d' : Cursor} → c' ≡ cursorAt b (w.bridge.at / ticketLength + 1) → d' ≡ cursorAt d (w.desk.at / ticketLength + 1)
-    → Walked b d (asWalk c' d' (cond same (w.alike + 1) w.alike) (cond (not same) (w.differing + 1) w.differing) w.only_bridge w.only_desk)
+pub past_both : {b d : List ℕ} {w : Walk} → Walked b d w → w.bridge.at < length b → w.desk.at < length d → w.bridge.head.number ≡ w.desk.head.number
+    → (same : Bool) → same_ticket w.bridge.head w.desk.head ≡ same
+    → {c' d' : Cursor} → c' ≡ cursor_at b (w.bridge.at / ticket_length + 1) → d' ≡ cursor_at d (w.desk.at / ticket_length + 1)
+    → Walked b d (as_walk c' d' (cond same (w.alike + 1) w.alike) (cond (not same) (w.differing + 1) w.differing) w.only_bridge w.only_desk)
     × (w.bridge.at + w.desk.at < c'.at + d'.at)
-past-both p inside-bridge inside-desk e same told e₁ e₂ =
-    let mine = p.of-bridge in
-    let theirs = p.of-desk in (
+past_both p inside-bridge inside-desk e same told e₁ e₂ =
+    let mine = p.of_bridge in
+    let theirs = p.of_desk in (
       record {
-        of-bridge = both-passed mine theirs inside-bridge inside-desk e same told e₁ e₂;
-        of-desk = both-passed theirs mine inside-desk inside-bridge (sym e) same (same-exchanged _ _ ∙ told) e₂ e₁;
+        of_bridge = both_passed mine theirs inside-bridge inside-desk e same told e₁ e₂;
+        of_desk = both_passed theirs mine inside-desk inside-bridge (sym e) same (same_exchanged _ _ ∙ told) e₂ e₁;
       },
       omega (arith, (moved mine.standing inside-bridge e₁).1, (moved theirs.standing inside-desk e₂).1),
     )

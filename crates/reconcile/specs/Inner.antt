@@ -6,61 +6,61 @@ use Rattle.rules.specs.Loops.{◌and◌, every, count}
 use Rattle.rules.specs.Refusals.{first}
 use Rattle.ticket.specs.declared.Ticket.{Ticket}
 use Rattle.ticket.specs.declared.Reading.{Reading}
-use Rattle.ticket.specs.Tickets.{ticketLength, numberLimit, asTicket, handedBack, reading}
+use Rattle.ticket.specs.Tickets.{ticket_length, number_limit, as_ticket, handed_back, reading}
 use Rattle.reconcile.specs.declared.cursor.Cursor.{Cursor}
 use Rattle.reconcile.specs.declared.walk.Walk.{Walk}
-use Rattle.reconcile.specs.Counts.{number_at, has, shares, numbersRise}
-use Rattle.reconcile.specs.Lists.{listLimit, ticketsIn, ticketPart, ticketsOf, ticketsAnswer}
+use Rattle.reconcile.specs.Counts.{number_at, has, shares, numbers_rise}
+use Rattle.reconcile.specs.Lists.{list_limit, tickets_in, ticket_part, tickets_of, tickets_answer}
 
 -- the end of a list: above the number of every ticket
-abbrev pub endTicket : Ticket
-endTicket = asTicket (suc numberLimit) 0 0 0 0
+abbrev pub end_ticket : Ticket
+end_ticket = as_ticket (suc number_limit) 0 0 0 0
 
 -- what is read at place k of a list: its ticket, or behind the last one the end
-unfoldable pub readAt : List ℕ → ℕ → Reading
-readAt b k = cond (ltb k (ticketsIn b)) (reading (ticketPart b k)) (handedBack 0 endTicket)
+unfoldable pub read_at : List ℕ → ℕ → Reading
+read_at b k = cond (ltb k (tickets_in b)) (reading (ticket_part b k)) (handed_back 0 end_ticket)
 
 -- The cursor at place k: the first refusal among the tickets up to it, whether their numbers rise, and the ticket there.
-unfoldable pub cursorAt : List ℕ → ℕ → Cursor
-cursorAt b k =
+unfoldable pub cursor_at : List ℕ → ℕ → Cursor
+cursor_at b k =
     record {
-      at = k * ticketLength;
-      answer = first (suc k) (λ j. (readAt b j).answer);
-      rises = every k (λ j. ltb (readAt b j).ticket.number (readAt b (suc j)).ticket.number);
-      head = (readAt b k).ticket;
+      at = k * ticket_length;
+      answer = first (suc k) (λ j. (read_at b j).answer);
+      rises = every k (λ j. ltb (read_at b j).ticket.number (read_at b (suc j)).ticket.number);
+      head = (read_at b k).ticket;
     }
 
 -- a cursor at a place of a list whose length is right
 pub record Standing (b : List ℕ) (c : Cursor) : Type 0 where
-  pub whole : length b % ticketLength ≡ 0
-  pub short : length b ≤ listLimit * ticketLength
+  pub whole : length b % ticket_length ≡ 0
+  pub short : length b ≤ list_limit * ticket_length
   pub within : c.at ≤ length b
-  pub is_at : c ≡ cursorAt b (c.at / ticketLength)
+  pub is_at : c ≡ cursor_at b (c.at / ticket_length)
 
 -- the number at place k of a list, or behind the last ticket that of the end
-abbrev pub nextNumber : List Ticket → ℕ → ℕ
-nextNumber l k = cond (ltb k (length l)) (number_at l k) endTicket.number
+abbrev pub next_number : List Ticket → ℕ → ℕ
+next_number l k = cond (ltb k (length l)) (number_at l k) end_ticket.number
 
 -- One list beside another: its first j tickets are passed, and k of the other's. Their numbers are below the other's next one, and are counted.
 pub record PassedTickets (l m : List Ticket) (j k alike differing only : ℕ) : Type 0 where
-  pub below : (i : ℕ) → i < j → number_at l i < nextNumber m k
+  pub below : (i : ℕ) → i < j → number_at l i < next_number m k
   pub alike_is : alike ≡ count j (λ i. has m (number_at l i) and shares l m (number_at l i))
-  pub differing-is : differing ≡ count j (λ i. has m (number_at l i) and not (shares l m (number_at l i)))
-  pub only-is : only ≡ count j (λ i. not (has m (number_at l i)))
+  pub differing_is : differing ≡ count j (λ i. has m (number_at l i) and not (shares l m (number_at l i)))
+  pub only_is : only ≡ count j (λ i. not (has m (number_at l i)))
 
 -- nothing is wrong with a list's tickets and their order
 pub record Sound (b : List ℕ) : Type 0 where
-  pub tickets-right : ticketsAnswer b ≡ 0
-  pub rises : numbersRise (ticketsOf b) ≡ true
+  pub tickets_right : tickets_answer b ≡ 0
+  pub rises : numbers_rise (tickets_of b) ≡ true
 
 -- the walk as one of the lists has it; where something is wrong with a list, the counts say nothing
 pub record ListWalked (own other : List ℕ) (c d : Cursor) (alike differing only : ℕ) : Type 0 where
   pub standing : Standing own c
-  pub adds-up : alike + differing + only ≡ c.at / ticketLength
+  pub adds_up : alike + differing + only ≡ c.at / ticket_length
   pub passed : Sound own → Sound other
-      → PassedTickets (ticketsOf own) (ticketsOf other) (c.at / ticketLength) (d.at / ticketLength) alike differing only
+      → PassedTickets (tickets_of own) (tickets_of other) (c.at / ticket_length) (d.at / ticket_length) alike differing only
 
 -- and as both have it
 pub record Walked (bridge desk : List ℕ) (w : Walk) : Type 0 where
-  pub of-bridge : ListWalked bridge desk w.bridge w.desk w.alike w.differing w.only_bridge
-  pub of-desk : ListWalked desk bridge w.desk w.bridge w.alike w.differing w.only_desk
+  pub of_bridge : ListWalked bridge desk w.bridge w.desk w.alike w.differing w.only_bridge
+  pub of_desk : ListWalked desk bridge w.desk w.bridge w.alike w.differing w.only_desk

@@ -2,23 +2,23 @@
 -- Assumes nothing.
 use Rattle.std.specs.Prelude.{ℕ, ◌+◌, ◌≤◌, ◌<◌, ◌≡◌, true, List, length}
 use Rattle.ticket.specs.declared.Ticket.{Ticket}
-use Rattle.ticket.specs.Tickets.{numberLimit}
+use Rattle.ticket.specs.Tickets.{number_limit}
 use Rattle.reconcile.specs.declared.Reconciliation.{Reconciliation}
-use Rattle.reconcile.specs.Counts.{number_at, alikeInBoth, differingInBoth, onlyInFirst, numbersRise}
-use Rattle.reconcile.specs.Lists.{ticketsIn, reconcileAnswer, reconciled, counted, reconciliation}
+use Rattle.reconcile.specs.Counts.{number_at, alike_in_both, differing_in_both, only_in_first, numbers_rise}
+use Rattle.reconcile.specs.Lists.{tickets_in, reconcile_answer, reconciled, counted, reconciliation}
 
 -- "each rising strictly by ticket number": the numbers rise, and each is one that a ticket can have
 pub record RisingList (l : List Ticket) : Type 0 where
-  pub rises : numbersRise l ≡ true
-  pub in-range : (k : ℕ) → k < length l → number_at l k ≤ numberLimit
+  pub rises : numbers_rise l ≡ true
+  pub in_range : (k : ℕ) → k < length l → number_at l k ≤ number_limit
 
 -- Each ticket of the first list is alike, differing or only there.
 abbrev pub FirstAddsUp : Type 0
-FirstAddsUp = (l m : List Ticket) → RisingList l → alikeInBoth l m + differingInBoth l m + onlyInFirst l m ≡ length l
+FirstAddsUp = (l m : List Ticket) → RisingList l → alike_in_both l m + differing_in_both l m + only_in_first l m ≡ length l
 
 -- So is each ticket of the second.
 abbrev pub SecondAddsUp : Type 0
-SecondAddsUp = (l m : List Ticket) → RisingList m → alikeInBoth l m + differingInBoth l m + onlyInFirst m l ≡ length m
+SecondAddsUp = (l m : List Ticket) → RisingList m → alike_in_both l m + differing_in_both l m + only_in_first m l ≡ length m
 
 -- A list against itself is all alike.
 abbrev pub AgainstItself : Type 0
@@ -34,5 +34,5 @@ ListsExchanged = (l m : List Ticket) → counted m l ≡ exchanged (counted l m)
 -- Of what is handed back where nothing is refused: each list's tickets are counted once.
 abbrev pub CountsAddUp : Type 0
 CountsAddUp =
-    (bridge desk : List ℕ) → reconcileAnswer bridge desk ≡ 0 → let r = reconciliation bridge desk in
-    (r.alike + r.differing + r.only_bridge ≡ ticketsIn bridge) × (r.alike + r.differing + r.only_desk ≡ ticketsIn desk)
+    (bridge desk : List ℕ) → reconcile_answer bridge desk ≡ 0 → let r = reconciliation bridge desk in
+    (r.alike + r.differing + r.only_bridge ≡ tickets_in bridge) × (r.alike + r.differing + r.only_desk ≡ tickets_in desk)

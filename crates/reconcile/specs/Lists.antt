@@ -2,41 +2,41 @@
 -- Assumes nothing.
 use Rattle.std.specs.Prelude.{ℕ, ◌*◌, ◌/◌, ◌%◌, Bool, not, List, length, eqb, ltb}
 use Rattle.rules.specs.Loops.{◌or◌, list}
-use Rattle.rules.specs.Refusals.{◌when◌, ◌orElse◌, first, done}
+use Rattle.rules.specs.Refusals.{◌when◌, ◌or_else◌, first, done}
 use Rattle.rules.specs.Numbers.{part}
 use Rattle.ticket.specs.declared.Ticket.{Ticket}
-use Rattle.ticket.specs.Tickets.{ticketLength, ticketOf, readAnswer}
+use Rattle.ticket.specs.Tickets.{ticket_length, ticket_of, read_answer}
 use Rattle.reconcile.specs.declared.Reconciliation.{Reconciliation}
-use Rattle.reconcile.specs.Counts.{numbersRise, alikeInBoth, differingInBoth, onlyInFirst}
+use Rattle.reconcile.specs.Counts.{numbers_rise, alike_in_both, differing_in_both, only_in_first}
 
-abbrev pub listLimit : ℕ
-listLimit = 4096
+abbrev pub list_limit : ℕ
+list_limit = 4096
 
 -- how many tickets, and the bytes of ticket k
-abbrev pub ticketsIn : List ℕ → ℕ
-ticketsIn b = length b / ticketLength
+abbrev pub tickets_in : List ℕ → ℕ
+tickets_in b = length b / ticket_length
 
-abbrev pub ticketPart : List ℕ → ℕ → List ℕ
-ticketPart b k = part (k * ticketLength) ticketLength b
+abbrev pub ticket_part : List ℕ → ℕ → List ℕ
+ticket_part b k = part (k * ticket_length) ticket_length b
 
-unfoldable pub ticketsOf : List ℕ → List Ticket
-ticketsOf b = list (ticketsIn b) (λ k. ticketOf (ticketPart b k))
+unfoldable pub tickets_of : List ℕ → List Ticket
+tickets_of b = list (tickets_in b) (λ k. ticket_of (ticket_part b k))
 
 -- no multiple of 11, or over 4,096 tickets
-unfoldable pub lengthWrong : List ℕ → Bool
-lengthWrong b = not (eqb (length b % ticketLength) 0) or ltb (listLimit * ticketLength) (length b)
+unfoldable pub length_wrong : List ℕ → Bool
+length_wrong b = not (eqb (length b % ticket_length) 0) or ltb (list_limit * ticket_length) (length b)
 
 -- each ticket's own refusal, in list order
-unfoldable pub ticketsAnswer : List ℕ → ℕ
-ticketsAnswer b = first (ticketsIn b) (λ k. readAnswer (ticketPart b k))
+unfoldable pub tickets_answer : List ℕ → ℕ
+tickets_answer b = first (tickets_in b) (λ k. read_answer (ticket_part b k))
 
-unfoldable pub reconcileAnswer : (bridge desk : List ℕ) → ℕ
-reconcileAnswer bridge desk =
-    3 when (lengthWrong bridge or lengthWrong desk)
-    or_else ticketsAnswer bridge
-    or_else ticketsAnswer desk
-    or_else 36 when not (numbersRise (ticketsOf bridge))
-    or_else 37 when not (numbersRise (ticketsOf desk))
+unfoldable pub reconcile_answer : (bridge desk : List ℕ) → ℕ
+reconcile_answer bridge desk =
+    3 when (length_wrong bridge or length_wrong desk)
+    or_else tickets_answer bridge
+    or_else tickets_answer desk
+    or_else 36 when not (numbers_rise (tickets_of bridge))
+    or_else 37 when not (numbers_rise (tickets_of desk))
 
 -- what comparing hands back: 0 and the four counts, or a refusal's number beside zeros
 abbrev pub reconciled : (answer alike differing onlyBridge onlyDesk : ℕ) → Reconciliation
@@ -44,8 +44,8 @@ reconciled answer alike differing onlyBridge onlyDesk =
     record { answer = answer; alike = alike; differing = differing; only_bridge = onlyBridge; only_desk = onlyDesk }
 
 unfoldable pub counted : (bridge desk : List Ticket) → Reconciliation
-counted bridge desk = reconciled 0 (alikeInBoth bridge desk) (differingInBoth bridge desk) (onlyInFirst bridge desk) (onlyInFirst desk bridge)
+counted bridge desk = reconciled 0 (alike_in_both bridge desk) (differing_in_both bridge desk) (only_in_first bridge desk) (only_in_first desk bridge)
 
 unfoldable pub reconciliation : (bridge desk : List ℕ) → Reconciliation
 reconciliation bridge desk =
-    done (reconcileAnswer bridge desk) (counted (ticketsOf bridge) (ticketsOf desk)) (reconciled (reconcileAnswer bridge desk) 0 0 0 0)
+    done (reconcile_answer bridge desk) (counted (tickets_of bridge) (tickets_of desk)) (reconciled (reconcile_answer bridge desk) 0 0 0 0)

@@ -1,9 +1,9 @@
 // A list of tickets on its way through: where the walk is, and what it has found so far.
 ghost use Rattle.std.specs.Prelude.{◌≡◌, ◌+◌, ◌/◌, ◌%◌, ◌<◌, length, ltb};
 ghost use Rattle.rules.specs.Loops.{◌and◌};
-ghost use Rattle.rules.specs.Refusals.{◌orElse◌};
-ghost use Rattle.ticket.specs.Tickets.{ticketLength};
-ghost use Rattle.reconcile.specs.Inner.{readAt, cursorAt, Standing};
+ghost use Rattle.rules.specs.Refusals.{◌or_else◌};
+ghost use Rattle.ticket.specs.Tickets.{ticket_length};
+ghost use Rattle.reconcile.specs.Inner.{read_at, cursor_at, Standing};
 
 use ticket::{Reading, Ticket};
 
@@ -24,8 +24,8 @@ const END: u32 = 100_000_000;
 
 // Reads the ticket at a position, or behind the last ticket the end.
 fn read_at(list: &[u8], at: usize) -> Reading
-    requires { (at % ticketLength ≡ 0) × (length list.now % ticketLength ≡ 0) }
-    ensures { result ≡ readAt list.now (at / ticketLength) }
+    requires { (at % ticket_length ≡ 0) × (length list.now % ticket_length ≡ 0) }
+    ensures { result ≡ read_at list.now (at / ticket_length) }
 {
     if at < list.len() {
         return Ticket::read(&list[at..at + Ticket::LENGTH]);
@@ -44,8 +44,8 @@ fn read_at(list: &[u8], at: usize) -> Reading
 
 // The cursor at the first ticket.
 pub(crate) fn start(list: &[u8]) -> Cursor
-    requires { length list.now % ticketLength ≡ 0 }
-    ensures { result ≡ cursorAt list.now 0 }
+    requires { length list.now % ticket_length ≡ 0 }
+    ensures { result ≡ cursor_at list.now 0 }
 {
     let first = read_at(list, 0);
     let head = first.ticket;
@@ -77,7 +77,7 @@ fn rises_to(before: bool, number: u32, next: u32) -> bool
 // Past the head, which is a ticket and not the end. The end is above every number, so that rising to it tells nothing.
 pub(crate) fn advance(list: &[u8], c: Cursor) -> Cursor
     requires { Standing list.now c × (c.at < length list.now) }
-    ensures { result ≡ cursorAt list.now (c.at / ticketLength + 1) }
+    ensures { result ≡ cursor_at list.now (c.at / ticket_length + 1) }
 {
     let at = c.at + Ticket::LENGTH;
     let next = read_at(list, at);

@@ -3,7 +3,7 @@ mod cursor;
 mod walk;
 
 ghost use Rattle.std.specs.Prelude.{◌≡◌};
-ghost use Rattle.reconcile.specs.Lists.{lengthWrong, reconciled, reconciliation};
+ghost use Rattle.reconcile.specs.Lists.{length_wrong, reconciled, reconciliation};
 
 use cursor::start;
 use ticket::Ticket;
@@ -24,7 +24,7 @@ pub struct Reconciliation {
 
 // No multiple of 11, or over 4,096 tickets.
 fn length_wrong(list: &[u8]) -> bool
-    ensures { result ≡ lengthWrong list.now }
+    ensures { result ≡ length_wrong list.now }
 {
     list.len() % Ticket::LENGTH != 0 || LIST_LIMIT * Ticket::LENGTH < list.len()
 }

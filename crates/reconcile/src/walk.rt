@@ -1,7 +1,7 @@
 // One walk over both lists together: at each step the smallest number that either list stands at is counted, and passed in every list that has it.
 ghost use Rattle.std.specs.Prelude.{◌≡◌, not, ◌+◌, ◌<◌, length};
-ghost use Rattle.rules.specs.Refusals.{◌when◌, ◌orElse◌};
-ghost use Rattle.reconcile.specs.Counts.{sameTicket};
+ghost use Rattle.rules.specs.Refusals.{◌when◌, ◌or_else◌};
+ghost use Rattle.reconcile.specs.Counts.{same_ticket};
 ghost use Rattle.reconcile.specs.Inner.{Walked};
 
 use crate::cursor::{Cursor, advance};
@@ -19,7 +19,7 @@ pub(crate) struct Walk {
 
 // Do two tickets say the same?
 fn same_ticket(t: Ticket, u: Ticket) -> bool
-    ensures { result ≡ sameTicket t u }
+    ensures { result ≡ same_ticket t u }
 {
     if t.number != u.number {
         return false;

@@ -9,9 +9,9 @@ use lib.Dec.{eqb}
 use borrow.Author.Tests.{eqb-true}
 use Rattle.rules.specs.Loops.{every, list}
 use Rattle.rules.specs.Layout.{columns}
-use Rattle.rules.proofs.Loops.Every.{every-at}
-use Rattle.rules.proofs.Cases.Table.{open-loops, open-refusals, open-pile}
-use Rattle.relays.specs.Join.{Body, Book, deskRow}
+use Rattle.rules.proofs.Loops.Every.{every_at}
+use Rattle.rules.proofs.Cases.Table.{open_loops, open_refusals, open_pile}
+use Rattle.relays.specs.Join.{Body, Book, desk_row}
 use Rattle.relays.specs.Laws.{LawfulBody}
 
 -- a book with the same body for each of p piles
@@ -19,20 +19,20 @@ abbrev pub repeated : ℕ → Body → Book
 repeated p x = list p (λ k. x)
 
 -- that a body's rows are as long as those of n desks is computed
-long-rows : (n : ℕ) (x : Body) → every n (λ i. eqb (length (deskRow x i)) (columns n)) ≡ true → (i : ℕ) → i < n → length (deskRow x i) ≡ columns n
-long-rows n x e i l = eqb-true _ _ (every-at n _ e i l)
+long_rows : (n : ℕ) (x : Body) → every n (λ i. eqb (length (desk_row x i)) (columns n)) ≡ true → (i : ℕ) → i < n → length (desk_row x i) ≡ columns n
+long_rows n x e i l = eqb-true _ _ (every_at n _ e i l)
 
 -- one desk with a tip share of 5,000,000,000 between a floor and a top of 0, which 5 refuses, and a tally over 1,000,000,000, which 6 refuses: no rights are negative
 abbrev pub unlimited : ℕ → Body
 unlimited tipped = record { opening = 0 ∷ 0 ∷ 0 ∷ 5000000000 ∷ []; rows = (tipped ∷ 0 ∷ 0 ∷ 0 ∷ []) ∷ [] }
 
-pub less-lawful : LawfulBody 1 (unlimited 2000000000)
-unfolding open-loops open-refusals open-pile
-less-lawful = record { opening = refl; desks = refl; rows = long-rows 1 (unlimited 2000000000) refl; none-negative = refl }
+pub less_lawful : LawfulBody 1 (unlimited 2000000000)
+unfolding open_loops open_refusals open_pile
+less_lawful = record { opening = refl; desks = refl; rows = long_rows 1 (unlimited 2000000000) refl; none_negative = refl }
 
-pub more-lawful : LawfulBody 1 (unlimited 3000000000)
-unfolding open-loops open-refusals open-pile
-more-lawful = record { opening = refl; desks = refl; rows = long-rows 1 (unlimited 3000000000) refl; none-negative = refl }
+pub more_lawful : LawfulBody 1 (unlimited 3000000000)
+unfolding open_loops open_refusals open_pile
+more_lawful = record { opening = refl; desks = refl; rows = long_rows 1 (unlimited 3000000000) refl; none_negative = refl }
 
 -- n desks; floor 0, top n, to each desk a tip share of 1, which these desks tipped
 abbrev pub wide : ℕ → (ℕ → Bool) → Body
@@ -43,16 +43,16 @@ wide n tipped =
     }
 
 -- of nine desks the first, or the last
-abbrev pub first-tipped : Body
-first-tipped = wide 9 (λ i. eqb i 0)
+abbrev pub first_tipped : Body
+first_tipped = wide 9 (λ i. eqb i 0)
 
-abbrev pub last-tipped : Body
-last-tipped = wide 9 (λ i. eqb i 8)
+abbrev pub last_tipped : Body
+last_tipped = wide 9 (λ i. eqb i 8)
 
-pub first-lawful : LawfulBody 9 first-tipped
-unfolding open-loops open-refusals open-pile
-first-lawful = record { opening = refl; desks = refl; rows = long-rows 9 first-tipped refl; none-negative = refl }
+pub first_lawful : LawfulBody 9 first_tipped
+unfolding open_loops open_refusals open_pile
+first_lawful = record { opening = refl; desks = refl; rows = long_rows 9 first_tipped refl; none_negative = refl }
 
-pub last-lawful : LawfulBody 9 last-tipped
-unfolding open-loops open-refusals open-pile
-last-lawful = record { opening = refl; desks = refl; rows = long-rows 9 last-tipped refl; none-negative = refl }
+pub last_lawful : LawfulBody 9 last_tipped
+unfolding open_loops open_refusals open_pile
+last_lawful = record { opening = refl; desks = refl; rows = long_rows 9 last_tipped refl; none_negative = refl }

@@ -2,16 +2,16 @@
 -- Assumes nothing.
 use Prim.Native.Nat.{ℕ}
 use mathlib.Core.Path.{◌≡◌, sym, subst}
-use Rattle.rules.specs.Pile.{pileAnswer}
-use Rattle.relays.specs.Join.{Body, Book, pileIn, join}
+use Rattle.rules.specs.Pile.{pile_answer}
+use Rattle.relays.specs.Join.{Body, Book, pile_in, join}
 use Rattle.relays.specs.Laws.{Related, PassesCheck, ChecksCarryOver}
-use Rattle.relays.proofs.Lawful.{joined-passes}
-use Rattle.relays.proofs.Join.{body-of-join, related-exchanged, related-itself, related-join}
+use Rattle.relays.proofs.Lawful.{joined_passes}
+use Rattle.relays.proofs.Join.{body_of_join, related_exchanged, related_itself, related_join}
 
-pub checks-carry-over : ChecksCarryOver
-checks-carry-over n p a b ab passes-a passes-b k l =
-    subst (λ (x : Body). pileAnswer n (pileIn n x) ≡ 0) (sym (body-of-join n p a b k l))
-    (joined-passes n _ _ (ab.first.bodies k l) (ab.second.bodies k l) (ab.opening k l) (λ i m. ab.no-split k i l m) (passes-a k l) (passes-b k l))
+pub checks_carry_over : ChecksCarryOver
+checks_carry_over n p a b ab passes-a passes-b k l =
+    subst (λ (x : Body). pile_answer n (pile_in n x) ≡ 0) (sym (body_of_join n p a b k l))
+    (joined_passes n _ _ (ab.first.bodies k l) (ab.second.bodies k l) (ab.opening k l) (λ i m. ab.no_split k i l m) (passes-a k l) (passes-b k l))
 
 -- two books that are related and pass
 pub record Checked (n p : ℕ) (a b : Book) : Type 0 where
@@ -21,19 +21,19 @@ pub record Checked (n p : ℕ) (a b : Book) : Type 0 where
 
 -- exchanged, the first with itself, and two of them joined beside the third
 module _ (n p : ℕ) where
-  pub checked-exchanged : {a b : Book} → Checked n p a b → Checked n p b a
-  checked-exchanged ab = record { related = related-exchanged n p ab.related; first = ab.second; second = ab.first }
+  pub checked_exchanged : {a b : Book} → Checked n p a b → Checked n p b a
+  checked_exchanged ab = record { related = related_exchanged n p ab.related; first = ab.second; second = ab.first }
 
-  pub checked-itself : {a b : Book} → Checked n p a b → Checked n p a a
-  checked-itself ab = record { related = related-itself n p ab.related.first; first = ab.first; second = ab.first }
+  pub checked_itself : {a b : Book} → Checked n p a b → Checked n p a a
+  checked_itself ab = record { related = related_itself n p ab.related.first; first = ab.first; second = ab.first }
 
-  pub checked-join : {a b c : Book} → Checked n p a b → Checked n p b c → Checked n p a c → Checked n p (join n p a b) c
-  checked-join {a} {b} ab bc ac =
+  pub checked_join : {a b c : Book} → Checked n p a b → Checked n p b c → Checked n p a c → Checked n p (join n p a b) c
+  checked_join {a} {b} ab bc ac =
       record {
-        related = related-join n p ab.related bc.related ac.related;
-        first = checks-carry-over n p a b ab.related ab.first ab.second;
+        related = related_join n p ab.related bc.related ac.related;
+        first = checks_carry_over n p a b ab.related ab.first ab.second;
         second = ac.second;
       }
 
-  pub checked-to-join : {a b c : Book} → Checked n p a b → Checked n p b c → Checked n p a c → Checked n p a (join n p b c)
-  checked-to-join ab bc ac = checked-exchanged (checked-join bc (checked-exchanged ac) (checked-exchanged ab))
+  pub checked_to_join : {a b c : Book} → Checked n p a b → Checked n p b c → Checked n p a c → Checked n p a (join n p b c)
+  checked_to_join ab bc ac = checked_exchanged (checked_join bc (checked_exchanged ac) (checked_exchanged ab))

@@ -5,7 +5,7 @@ use Rattle.rules.specs.Numbers.{Octets}
 use Rattle.rules.specs.Take.{taken}
 use Rattle.relays.specs.Join.{Book, join}
 use Rattle.relays.specs.Laws.{Related, Joins}
-use Rattle.relays.specs.Files.{joinAnswer}
+use Rattle.relays.specs.Files.{join_answer}
 use Rattle.relays.specs.FileLaws.{FileJoins}
 
 -- a book by its number, or what one plan gives joined with what another gives
@@ -42,19 +42,19 @@ PlansJoin =
     (n p : ℕ) (books : ℕ → Book) → AllRelated n p books → (t u : Plan) → Joins n p (carried n p books t) (carried n p books u)
 
 -- what a plan leaves of files
-abbrev pub takenByPlan : (ℕ → List ℕ) → Plan → List ℕ
-takenByPlan files (numbered i) = files i
-takenByPlan files (relay t u) = taken (takenByPlan files t) (takenByPlan files u)
+abbrev pub taken_by_plan : (ℕ → List ℕ) → Plan → List ℕ
+taken_by_plan files (numbered i) = files i
+taken_by_plan files (relay t u) = taken (taken_by_plan files t) (taken_by_plan files u)
 
 -- readable files that meet neither 30 nor 31 with each other
 pub record AllJoinable (files : ℕ → List ℕ) : Type 0 where
-  pub of-bytes : (i : ℕ) → Octets (files i)
-  pub meet-none : (i j : ℕ) → joinAnswer (files i) (files j) ≡ 0
+  pub of_bytes : (i : ℕ) → Octets (files i)
+  pub meet_none : (i j : ℕ) → join_answer (files i) (files j) ≡ 0
 
 -- On bytes: two plans that name the same files leave the same bytes.
 abbrev pub AnyFilePlan : Type 0
-AnyFilePlan = (files : ℕ → List ℕ) → AllJoinable files → (t u : Plan) → SameNames t u → takenByPlan files t ≡ takenByPlan files u
+AnyFilePlan = (files : ℕ → List ℕ) → AllJoinable files → (t u : Plan) → SameNames t u → taken_by_plan files t ≡ taken_by_plan files u
 
 -- And no relay of a plan meets a refusal of the join; what comes out is readable.
 abbrev pub FilePlansJoin : Type 0
-FilePlansJoin = (files : ℕ → List ℕ) → AllJoinable files → (t u : Plan) → FileJoins (takenByPlan files t) (takenByPlan files u)
+FilePlansJoin = (files : ℕ → List ℕ) → AllJoinable files → (t u : Plan) → FileJoins (taken_by_plan files t) (taken_by_plan files u)

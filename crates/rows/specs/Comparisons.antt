@@ -4,9 +4,9 @@ use Rattle.rules.specs.Rows as rules
 use Rattle.rows.specs.declared.Comparison.{Comparison}
 use Rattle.rows.specs.declared.Comparison.TheVariants.{Alike, MineLater, CopyLater, Split, Refused}
 
-abbrev pub asComparison : Comparison → rules.Comparison
-asComparison Alike = rules.bothAlike
-asComparison MineLater = rules.mineLater
-asComparison CopyLater = rules.copyLater
-asComparison Split = rules.bothSplit
-asComparison (Refused number) = rules.refused number
+abbrev pub as_comparison : Comparison → rules.Comparison
+as_comparison Alike = rules.both_alike
+as_comparison MineLater = rules.mine_later
+as_comparison CopyLater = rules.copy_later
+as_comparison Split = rules.both_split
+as_comparison (Refused number) = rules.refused number

@@ -1,7 +1,7 @@
 // Two rows of a desk, each in a slice of bytes: which of them is later, and the later one handed on.
 ghost use Rattle.std.specs.Prelude.{◌≡◌, cond};
-ghost use Rattle.rules.specs.Rows.{compared, isCopyLater, laterRow};
-ghost use Rattle.rows.specs.Comparisons.{asComparison};
+ghost use Rattle.rules.specs.Rows.{compared, is_copy_later, later_row};
+ghost use Rattle.rows.specs.Comparisons.{as_comparison};
 
 use layout::lengths::{NUMBER, is_row_length};
 use number::get4;
@@ -20,7 +20,7 @@ pub enum Comparison {
 // is, where the other is not, is the later one: it dominates the other in the product order. Where neither is, the rows are split, a fork. Refused
 // with 3 where the rows differ in length or have a length other than 8(n + 1) bytes for an n from 1 to 8.
 pub fn compare(mine: &[u8], copy: &[u8]) -> Comparison
-    ensures { asComparison result ≡ compared mine.now copy.now }
+    ensures { as_comparison result ≡ compared mine.now copy.now }
 {
     if !is_row_length(mine.len()) {
         return Comparison::Refused(3);
@@ -61,8 +61,8 @@ pub fn compare(mine: &[u8], copy: &[u8]) -> Comparison
 // The later of two rows, handed on as that part of whichever book has it; of two alike rows the first. Empty, at the first row's start, where the
 // rows are split or cannot be compared.
 pub fn later_row<'a>(mine: &'a [u8], copy: &'a [u8]) -> &'a [u8]
-    ensures bytes { result.now ≡ laterRow mine.now copy.now }
-    ensures place { result.ref_ptr ≡ cond (isCopyLater (compared mine.now copy.now)) copy.entry.ref_ptr mine.entry.ref_ptr }
+    ensures bytes { result.now ≡ later_row mine.now copy.now }
+    ensures place { result.ref_ptr ≡ cond (is_copy_later (compared mine.now copy.now)) copy.entry.ref_ptr mine.entry.ref_ptr }
 {
     match compare(mine, copy) {
         // Of two alike rows the first is handed on.

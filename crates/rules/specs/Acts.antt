@@ -2,8 +2,8 @@
 -- Assumes nothing.
 use Rattle.std.specs.Prelude.{ℕ, ◌+◌, Bool, false, not, ltb, eqb}
 use Rattle.rules.specs.Loops.{◌or◌}
-use Rattle.rules.specs.Refusals.{◌when◌, ◌orElse◌}
-use Rattle.rules.specs.Pile.{Side, other, Pile, rights, tallyLimit, amountLimit}
+use Rattle.rules.specs.Refusals.{◌when◌, ◌or_else◌}
+use Rattle.rules.specs.Pile.{Side, other, Pile, rights, tally_limit, amount_limit}
 
 -- Tipping spends tip rights and drawing spends draw rights; a give moves rights of a side to a receiver (Figure 1's transfer).
 pub data Kind : Type 0 where
@@ -27,14 +27,14 @@ tally p i (spend s) = p.earned (other s) i
 tally p i (give s j) = p.give s i j
 
 -- receiver ≥ n, or the giver itself
-abbrev pub receiverWrong : ℕ → ℕ → Kind → Bool
-receiverWrong n i (spend s) = false
-receiverWrong n i (give s j) = not (ltb j n) or eqb j i
+abbrev pub receiver_wrong : ℕ → ℕ → Kind → Bool
+receiver_wrong n i (spend s) = false
+receiver_wrong n i (give s j) = not (ltb j n) or eqb j i
 
 -- 12 to 15, for desk i and an amount of t
-unfoldable pub actRefusal : ℕ → Pile → ℕ → Kind → ℕ → ℕ
-actRefusal n p i kind t =
-    12 when receiverWrong n i kind
-    or_else 13 when (eqb t 0 or ltb amountLimit t)
+unfoldable pub act_refusal : ℕ → Pile → ℕ → Kind → ℕ → ℕ
+act_refusal n p i kind t =
+    12 when receiver_wrong n i kind
+    or_else 13 when (eqb t 0 or ltb amount_limit t)
     or_else 14 when ltb (rights n p (side kind) i) t
-    or_else 15 when ltb tallyLimit (tally p i kind + t)
+    or_else 15 when ltb tally_limit (tally p i kind + t)

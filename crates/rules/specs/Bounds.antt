@@ -4,9 +4,9 @@
 use Rattle.std.specs.Prelude.{ℕ, ◌+◌, ◌-◌, List}
 use Rattle.rules.specs.Refusals.{Reply, reply}
 use Rattle.rules.specs.Pile.{Side, draw, tip, Pile, rights}
-use Rattle.rules.specs.Layout.{desks, pileOf}
-use Rattle.rules.specs.Book.{place, deskAnswer}
-use Rattle.rules.specs.Record.{Record, recordView, recordDeskAnswer}
+use Rattle.rules.specs.Layout.{desks, pile_of}
+use Rattle.rules.specs.Book.{place, desk_answer}
+use Rattle.rules.specs.Record.{Record, record_view, record_desk_answer}
 
 -- floor + its draw rights
 unfoldable pub least : ℕ → Pile → ℕ → ℕ
@@ -22,8 +22,8 @@ bound n p draw i = least n p i
 bound n p tip i = most n p i
 
 -- asked of a book and of a record: refused as rights are
-unfoldable pub boundReply : Side → ℕ → List ℕ → ℕ → Reply
-boundReply s i b number = reply (deskAnswer i b number) (bound (desks b) (pileOf b (place b number)) s i)
+unfoldable pub bound_reply : Side → ℕ → List ℕ → ℕ → Reply
+bound_reply s i b number = reply (desk_answer i b number) (bound (desks b) (pile_of b (place b number)) s i)
 
-unfoldable pub recordBoundReply : Side → ℕ → Record → Reply
-recordBoundReply s i r = reply (recordDeskAnswer i r) (bound r.n (recordView r) s i)
+unfoldable pub record_bound_reply : Side → ℕ → Record → Reply
+record_bound_reply s i r = reply (record_desk_answer i r) (bound r.n (record_view r) s i)

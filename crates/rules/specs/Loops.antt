@@ -29,11 +29,11 @@ unfoldable pub some : ℕ → (ℕ → Bool) → Bool
 some n t = not (every n (λ k. not (t k)))
 
 -- how many numbers below n pass the test
-abbrev pub oneIf : Bool → ℕ
-oneIf b = cond b 1 0
+abbrev pub one_if : Bool → ℕ
+one_if b = cond b 1 0
 
 unfoldable pub count : ℕ → (ℕ → Bool) → ℕ
-count n t = sum n (λ k. oneIf (t k))
+count n t = sum n (λ k. one_if (t k))
 
 -- the first number below n at which the test holds, or n
 unfoldable pub index : ℕ → (ℕ → Bool) → ℕ

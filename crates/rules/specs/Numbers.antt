@@ -28,12 +28,12 @@ abbrev pub part : {A : Type 0} → ℕ → ℕ → List A → List A
 part at count l = take count (drop at l)
 
 -- where the part of a lent slice of bytes lies that starts at a position: in the slice's block, so many bytes past the slice's offset
-abbrev pub partPlace : ℕ × ℕ → ℕ → ℕ × ℕ
-partPlace (block, offset) at = (block, at + offset)
+abbrev pub part_place : ℕ × ℕ → ℕ → ℕ × ℕ
+part_place (block, offset) at = (block, at + offset)
 
 -- putting a number into a lent slice of bytes: 8 where it does not fit there; every byte outside stays
-unfoldable pub putAnswer : ℕ → List ℕ → ℕ → ℕ
-putAnswer w b at = 8 when ltb (length b) (at + w)
+unfoldable pub put_answer : ℕ → List ℕ → ℕ → ℕ
+put_answer w b at = 8 when ltb (length b) (at + w)
 
-unfoldable pub afterPut : ℕ → List ℕ → ℕ → ℕ → List ℕ
-afterPut w b at x = done (putAnswer w b at) (sets b at (bytes w x)) b
+unfoldable pub after_put : ℕ → List ℕ → ℕ → ℕ → List ℕ
+after_put w b at x = done (put_answer w b at) (sets b at (bytes w x)) b

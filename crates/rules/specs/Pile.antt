@@ -3,7 +3,7 @@
 -- Assumes nothing.
 use Rattle.std.specs.Prelude.{ℕ, zero, suc, ◌+◌, ◌-◌, ◌≤◌, Bool, not, leb, eqb}
 use Rattle.rules.specs.Loops.{◌and◌, sum, every}
-use Rattle.rules.specs.Refusals.{◌when◌, ◌orElse◌}
+use Rattle.rules.specs.Refusals.{◌when◌, ◌or_else◌}
 
 pub data Side : Type 0 where
   draw tip : Side
@@ -17,8 +17,8 @@ abbrev pub side_of : ℕ → Side
 side_of zero = draw
 side_of (suc n) = tip
 
-unfoldable pub bothSides : (Side → Bool) → Bool
-bothSides t = t draw and t tip
+unfoldable pub both_sides : (Side → Bool) → Bool
+both_sides t = t draw and t tip
 
 -- A pile read by side and desk, wherever its numbers stand. Only desks below n are read.
 pub record Pile : Type 0 where
@@ -32,14 +32,14 @@ pub record Pile : Type 0 where
   pub give : Side → ℕ → ℕ → ℕ
 
 -- limits: of the top, of a tally, of an act's amount
-abbrev pub topLimit : ℕ
-topLimit = 10000000
+abbrev pub top_limit : ℕ
+top_limit = 10000000
 
-abbrev pub tallyLimit : ℕ
-tallyLimit = 1000000000
+abbrev pub tally_limit : ℕ
+tally_limit = 1000000000
 
-abbrev pub amountLimit : ℕ
-amountLimit = 1000
+abbrev pub amount_limit : ℕ
+amount_limit = 1000
 
 -- Rights of a side are credit less debit; what earns rights of one side spends those of the other.
 -- Shares start as credit: Figure 1's diagonal R[i][i] is share + earned, and its U[i] is what was spent.
@@ -54,47 +54,47 @@ rights n p s i = credit n p s i - debit n p s i
 
 -- no rights are negative
 unfoldable pub lawful : ℕ → Pile → Bool
-lawful n p = every n (λ i. bothSides (λ s. leb (debit n p s i) (credit n p s i)))
+lawful n p = every n (λ i. both_sides (λ s. leb (debit n p s i) (credit n p s i)))
 
 -- document 01's tonnage now, Figure 1's value, by the acts that a book holds: what was there at the opening (floor + all draw shares) and all tipped, less
 -- all drawn
-abbrev pub hadAndTipped : ℕ → Pile → ℕ
-hadAndTipped n p = p.floor + sum n (p.share draw) + sum n (p.earned draw)
+abbrev pub had_and_tipped : ℕ → Pile → ℕ
+had_and_tipped n p = p.floor + sum n (p.share draw) + sum n (p.earned draw)
 
-abbrev pub allDrawn : ℕ → Pile → ℕ
-allDrawn n p = sum n (p.earned tip)
+abbrev pub all_drawn : ℕ → Pile → ℕ
+all_drawn n p = sum n (p.earned tip)
 
 unfoldable pub tonnage : ℕ → Pile → ℕ
-tonnage n p = hadAndTipped n p - allDrawn n p
+tonnage n p = had_and_tipped n p - all_drawn n p
 
 -- the pile is between its floor and its top, said without a difference that could fall short: no more was drawn than was there above the floor
 pub record BetweenBounds (n : ℕ) (p : Pile) : Type 0 where
-  pub above_floor : p.floor + allDrawn n p ≤ hadAndTipped n p
-  pub below_top : hadAndTipped n p ≤ p.top + allDrawn n p
+  pub above_floor : p.floor + all_drawn n p ≤ had_and_tipped n p
+  pub below_top : had_and_tipped n p ≤ p.top + all_drawn n p
 
 -- floor ≤ top ≤ 10,000,000, and all shares of both kinds add up to top - floor
-unfoldable pub openingLawful : ℕ → Pile → Bool
-openingLawful n p =
+unfoldable pub opening_lawful : ℕ → Pile → Bool
+opening_lawful n p =
     leb p.floor p.top
-    and leb p.top topLimit
+    and leb p.top top_limit
     and eqb (sum n (p.share draw) + sum n (p.share tip)) (p.top - p.floor)
 
 -- each tally of desk i is within its limit, and its gives to itself are 0
-unfoldable pub talliesLawful : ℕ → Pile → ℕ → Bool
-talliesLawful n p i =
-    bothSides
-    (λ s. leb (p.earned s i) tallyLimit and every n (λ j. leb (p.give s i j) tallyLimit) and eqb (p.give s i i) 0)
+unfoldable pub tallies_lawful : ℕ → Pile → ℕ → Bool
+tallies_lawful n p i =
+    both_sides
+    (λ s. leb (p.earned s i) tally_limit and every n (λ j. leb (p.give s i j) tally_limit) and eqb (p.give s i i) 0)
 
 -- "Each body": 5, 6 and 7
-unfoldable pub pileAnswer : ℕ → Pile → ℕ
-pileAnswer n p =
-    5 when not (openingLawful n p)
-    or_else 6 when not (every n (talliesLawful n p))
+unfoldable pub pile_answer : ℕ → Pile → ℕ
+pile_answer n p =
+    5 when not (opening_lawful n p)
+    or_else 6 when not (every n (tallies_lawful n p))
     or_else 7 when not (lawful n p)
 
 -- floor, top and all shares agree
-unfoldable pub sameOpening : ℕ → Pile → Pile → Bool
-sameOpening n p q =
+unfoldable pub same_opening : ℕ → Pile → Pile → Bool
+same_opening n p q =
     eqb p.floor q.floor
     and eqb p.top q.top
-    and every n (λ i. bothSides (λ s. eqb (p.share s i) (q.share s i)))
+    and every n (λ i. both_sides (λ s. eqb (p.share s i) (q.share s i)))

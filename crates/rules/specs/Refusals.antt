@@ -3,14 +3,14 @@
 use Rattle.std.specs.Prelude.{ℕ, zero, suc, Bool, true, false, cond, eqb}
 
 infix 35 ◌when◌
-infixr 30 ◌orElse◌
+infixr 30 ◌or_else◌
 -- a line of the table: this number under this condition
 unfoldable pub ◌when◌ : ℕ → Bool → ℕ
 number when true = number
 number when false = 0
 
 -- the first refusal, or what comes after it in the table
-unfoldable pub ◌orElse◌ : ℕ → ℕ → ℕ
+unfoldable pub ◌or_else◌ : ℕ → ℕ → ℕ
 zero or_else rest = rest
 suc number or_else rest = suc number
 

@@ -12,139 +12,139 @@ use lib.Dec.{eqb}
 use lib.Seq.{sets}
 use borrow.Author.Tests.{le-leb, le-ltb, eq-eqb, eqb-true, ne_eqb}
 use Rattle.rules.specs.Loops.{◌and◌, between}
-use Rattle.rules.specs.Refusals.{◌when◌, ◌orElse◌, done}
-use Rattle.rules.specs.Pile.{sameOpening}
-use Rattle.rules.specs.Layout.{headOf, bodyLength, bodyAt, desks, pileOf}
-use Rattle.rules.specs.Book.{fetchAnswer, place}
-use Rattle.rules.specs.Record.{Record, InMemory, recordView, recordAnswer, storeAnswer, afterStore}
-use Rattle.rules.proofs.Loops.Logic.{and_both, and-left-fails, and-right-fails}
-use Rattle.rules.proofs.Loops.Refusals.{own-refusal, when-not-done, orElse-first, orElse-rest}
+use Rattle.rules.specs.Refusals.{◌when◌, ◌or_else◌, done}
+use Rattle.rules.specs.Pile.{same_opening}
+use Rattle.rules.specs.Layout.{head_of, body_length, body_at, desks, pile_of}
+use Rattle.rules.specs.Book.{fetch_answer, place}
+use Rattle.rules.specs.Record.{Record, InMemory, record_view, record_answer, store_answer, after_store}
+use Rattle.rules.proofs.Loops.Logic.{and_both, and_left_fails, and_right_fails}
+use Rattle.rules.proofs.Loops.Refusals.{own_refusal, when_not_done, or_else_first, or_else_rest}
 use Rattle.rules.proofs.Loops.Left.{stays, becomes}
-use Rattle.rules.proofs.File.Readable.{book-facts}
-use Rattle.rules.proofs.File.Refused.{store-refused}
-use Rattle.rules.proofs.Record.RoundTrip.{body-in, fetched-readable, fetched-place, fetched-is}
-use Rattle.padding.specs.Lists.{recordLength, recordNumbers, numbersRecord, padAnswer, afterPad, afterPack, listAnswer}
-use Rattle.padding.proofs.PackLines.{pack-leaves}
-use Rattle.pile.proofs.RecordNumbers.{length-record, numbers-again}
-use Rattle.store.specs.Numbers.{fetchNumbersAnswer, afterFetchNumbers, storeNumbersAnswer, afterStoreNumbers}
+use Rattle.rules.proofs.File.Readable.{book_facts}
+use Rattle.rules.proofs.File.Refused.{store_refused}
+use Rattle.rules.proofs.Record.RoundTrip.{body_in_lem, fetched_readable, fetched_place, fetched_is}
+use Rattle.padding.specs.Lists.{record_length, record_numbers, numbers_record, pad_answer, after_pad, after_pack, list_answer}
+use Rattle.padding.proofs.PackLines.{pack_leaves}
+use Rattle.pile.proofs.RecordNumbers.{length_record, numbers_again}
+use Rattle.store.specs.Numbers.{fetch_numbers_answer, after_fetch_numbers, store_numbers_answer, after_store_numbers}
 use Rattle.store.proofs.Lines as lines
 
 -- the room of a body that is found
-pub body-room : (b : List ℕ) (number : ℕ) → fetchAnswer b number ≡ 0 → bodyAt (headOf b) (place b number) + bodyLength (desks b) ≤ length b
-body-room b number found = body-in b (book-facts b (fetched-readable b number found)) (place b number) (fetched-place b number found)
+pub body_room : (b : List ℕ) (number : ℕ) → fetch_answer b number ≡ 0 → body_at (head_of b) (place b number) + body_length (desks b) ≤ length b
+body_room b number found = body_in_lem b (book_facts b (fetched_readable b number found)) (place b number) (fetched_place b number found)
 
 -- fetching into a list
 module _ (b : List ℕ) (number : ℕ) (out : List ℕ) where
   abbrev Fetches : ℕ → List ℕ → Type 0
-  Fetches m after = (m ≡ fetchNumbersAnswer b number (length out)) × (after ≡ afterFetchNumbers b number out)
+  Fetches m after = (m ≡ fetch_numbers_answer b number (length out)) × (after ≡ after_fetch_numbers b number out)
 
-  pub fetch-own : {m : ℕ} → m ≡ fetchAnswer b number → m ≢ 0 → Fetches m out
-  unfolding fetchNumbersAnswer afterFetchNumbers
-  fetch-own e d = let refused = own-refusal e d _ in (refused, stays _ _ refused d)
+  pub fetch_own : {m : ℕ} → m ≡ fetch_answer b number → m ≢ 0 → Fetches m out
+  unfolding fetch_numbers_answer after_fetch_numbers
+  fetch_own e d = let refused = own_refusal e d _ in (refused, stays _ _ refused d)
 
   -- the pile is found: its body is there, and padded
-  module _ (found : fetchAnswer b number ≡ 0) where
-    answer-8 : padAnswer (desks b) (bodyAt (headOf b) (place b number)) (length b) (length out) ≡ fetchNumbersAnswer b number (length out)
-    unfolding padAnswer fetchNumbersAnswer between ◌and◌ ◌when◌ ◌orElse◌
-    answer-8 =
-        let facts = book-facts b (fetched-readable b number found) in
-        rw (found, le-leb _ _ facts.sizes.desks-least, le-leb _ _ facts.sizes.desks-most, le-ltb _ _ (body-room b number found))
+  module _ (found : fetch_answer b number ≡ 0) where
+    answer_8 : pad_answer (desks b) (body_at (head_of b) (place b number)) (length b) (length out) ≡ fetch_numbers_answer b number (length out)
+    unfolding pad_answer fetch_numbers_answer between ◌and◌ ◌when◌ ◌or_else◌
+    answer_8 =
+        let facts = book_facts b (fetched_readable b number found) in
+        rw (found, le-leb _ _ facts.sizes.desks_least, le-leb _ _ facts.sizes.desks_most, le-ltb _ _ (body_room b number found))
 
-    pub fetch-list : {at m : ℕ} {after : List ℕ} → at ≡ bodyAt (headOf b) (place b number)
-        → (m ≡ padAnswer (desks b) at (length b) (length out)) × (after ≡ afterPad (desks b) at b out) → Fetches m after
-    unfolding afterPad afterFetchNumbers pileOf
-    fetch-list placed padded = (
-      rw placed at padded.0 ∙ answer-8,
+    pub fetch_list : {at m : ℕ} {after : List ℕ} → at ≡ body_at (head_of b) (place b number)
+        → (m ≡ pad_answer (desks b) at (length b) (length out)) × (after ≡ after_pad (desks b) at b out) → Fetches m after
+    unfolding after_pad after_fetch_numbers pile_of
+    fetch_list placed padded = (
+      rw placed at padded.0 ∙ answer_8,
       rw placed at padded.1
-          ∙ ap₂ (λ (m : ℕ) (r : Record). done m (sets out 0 (recordNumbers r)) out) answer-8 (sym (fetched-is b number found)),
+          ∙ ap₂ (λ (m : ℕ) (r : Record). done m (sets out 0 (record_numbers r)) out) answer_8 (sym (fetched_is b number found)),
     )
 
-orElse-again : (a rest : ℕ) → a or_else a or_else rest ≡ a or_else rest
-unfolding ◌orElse◌
-orElse-again zero rest = refl
-orElse-again (suc a) rest = refl
+or_else_again : (a rest : ℕ) → a or_else a or_else rest ≡ a or_else rest
+unfolding ◌or_else◌
+or_else_again zero rest = refl
+or_else_again (suc a) rest = refl
 
 -- a list that its own check passes
-module _ (l : List ℕ) (e : listAnswer l ≡ 0) where
-  pub list-sized : length l ≡ recordLength
-  unfolding listAnswer
-  list-sized = eqb-true _ _ (when-not-done 2 _ (orElse-first _ _ e))
+module _ (l : List ℕ) (e : list_answer l ≡ 0) where
+  pub list_sized : length l ≡ record_length
+  unfolding list_answer
+  list_sized = eqb-true _ _ (when_not_done 2 _ (or_else_first _ _ e))
 
-  list-passes : recordAnswer (numbersRecord l) ≡ 0
-  unfolding listAnswer
-  list-passes = orElse-rest _ _ e
+  list_passes : record_answer (numbers_record l) ≡ 0
+  unfolding list_answer
+  list_passes = or_else_rest _ _ e
 
 -- storing from a list
 module _ (b : List ℕ) (number : ℕ) (l : List ℕ) where
   abbrev Stores : ℕ → List ℕ → Type 0
-  Stores m after = (m ≡ storeNumbersAnswer b number l) × (after ≡ afterStoreNumbers b number l)
+  Stores m after = (m ≡ store_numbers_answer b number l) × (after ≡ after_store_numbers b number l)
 
-  refused : {m : ℕ} → m ≡ storeNumbersAnswer b number l → m ≢ 0 → Stores m b
-  unfolding afterStoreNumbers
+  refused : {m : ℕ} → m ≡ store_numbers_answer b number l → m ≢ 0 → Stores m b
+  unfolding after_store_numbers
   refused e d = (e, stays _ _ e d)
 
-  pub store-own : {m : ℕ} → m ≡ fetchAnswer b number → m ≢ 0 → Stores m b
-  unfolding storeNumbersAnswer
-  store-own e d = refused (own-refusal e d _) d
+  pub store_own : {m : ℕ} → m ≡ fetch_answer b number → m ≢ 0 → Stores m b
+  unfolding store_numbers_answer
+  store_own e d = refused (own_refusal e d _) d
 
   -- a list of a record's length is stored as the record that it is
-  module _ (sized : length l ≡ recordLength) where
-    as-record : storeNumbersAnswer b number l ≡ storeAnswer b number (numbersRecord l)
-    unfolding storeNumbersAnswer storeAnswer ◌when◌ ◌orElse◌
-    as-record = rw (eq-eqb _ _ sized) (orElse-again (fetchAnswer b number) _)
+  module _ (sized : length l ≡ record_length) where
+    as_record_lem : store_numbers_answer b number l ≡ store_answer b number (numbers_record l)
+    unfolding store_numbers_answer store_answer ◌when◌ ◌or_else◌
+    as_record_lem = rw (eq-eqb _ _ sized) (or_else_again (fetch_answer b number) _)
 
-    after-record : afterStore b number (numbersRecord l) ≡ afterStoreNumbers b number l
-    unfolding afterStoreNumbers
-    after-record =
-        by_cases (ℕ_discrete (storeAnswer b number (numbersRecord l)) 0)
-        (λ z. becomes _ _ (as-record ∙ z) refl)
-        (λ d. store-refused b number (numbersRecord l) d ∙ stays _ _ (sym as-record) d)
+    after_record : after_store b number (numbers_record l) ≡ after_store_numbers b number l
+    unfolding after_store_numbers
+    after_record =
+        by_cases (ℕ_discrete (store_answer b number (numbers_record l)) 0)
+        (λ z. becomes _ _ (as_record_lem ∙ z) refl)
+        (λ d. store_refused b number (numbers_record l) d ∙ stays _ _ (sym as_record_lem) d)
 
-    pub store-list : {m : ℕ} {after : List ℕ} → (m ≡ storeAnswer b number (numbersRecord l)) × (after ≡ afterStore b number (numbersRecord l)) → Stores m after
-    store-list stored = (stored.0 ∙ sym as-record, stored.1 ∙ after-record)
+    pub store_list : {m : ℕ} {after : List ℕ} → (m ≡ store_answer b number (numbers_record l)) × (after ≡ after_store b number (numbers_record l)) → Stores m after
+    store_list stored = (stored.0 ∙ sym as_record_lem, stored.1 ∙ after_record)
 
     -- and the other way
-    pub stored-record : {m : ℕ} {after : List ℕ} → Stores m after → (m ≡ storeAnswer b number (numbersRecord l)) × (after ≡ afterStore b number (numbersRecord l))
-    stored-record stored = (stored.0 ∙ as-record, stored.1 ∙ sym after-record)
+    pub stored_record : {m : ℕ} {after : List ℕ} → Stores m after → (m ≡ store_answer b number (numbers_record l)) × (after ≡ after_store b number (numbers_record l))
+    stored_record stored = (stored.0 ∙ as_record_lem, stored.1 ∙ sym after_record)
 
-  pub store-check : fetchAnswer b number ≡ 0 → {m : ℕ} → m ≡ listAnswer l → m ≢ 0 → Stores m b
-  unfolding listAnswer storeNumbersAnswer ◌when◌ ◌orElse◌
-  store-check found e d =
-      by_cases (ℕ_discrete (length l) recordLength)
-      (λ sized. store-list sized (lines.store-refused b number _ (lines.store-record b number _ found _ (rw (eq-eqb _ _ sized) at e) d) d))
+  pub store_check : fetch_answer b number ≡ 0 → {m : ℕ} → m ≡ list_answer l → m ≢ 0 → Stores m b
+  unfolding list_answer store_numbers_answer ◌when◌ ◌or_else◌
+  store_check found e d =
+      by_cases (ℕ_discrete (length l) record_length)
+      (λ sized. store_list sized (lines.store_refused b number _ (lines.store_record b number _ found _ (rw (eq-eqb _ _ sized) at e) d) d))
       (λ other. let three = rw (ne_eqb _ _ other) at e in refused (three ∙ sym (rw (found, ne_eqb _ _ other))) d)
 
   -- past that, by n and by the opening
-  module _ (found : fetchAnswer b number ≡ 0) (passes : listAnswer l ≡ 0) where
+  module _ (found : fetch_answer b number ≡ 0) (passes : list_answer l ≡ 0) where
     abbrev R : Record
-    R = numbersRecord l
+    R = numbers_record l
 
-    thirty : (eqb R.n (desks b) and sameOpening (desks b) (recordView R) (pileOf b (place b number))) ≡ false → Stores 30 b
-    thirty e = store-list (list-sized l passes) (lines.store-refused b number R (lines.store-30 b number R found (list-passes l passes) e) (omega arith))
+    thirty : (eqb R.n (desks b) and same_opening (desks b) (record_view R) (pile_of b (place b number))) ≡ false → Stores 30 b
+    thirty e = store_list (list_sized l passes) (lines.store_refused b number R (lines.store_30 b number R found (list_passes l passes) e) (omega arith))
 
-    pub store-other-n : get_or l 0 0 ≢ desks b → Stores 30 b
-    unfolding numbersRecord
-    store-other-n other = thirty (and-left-fails (ne_eqb _ _ other) _)
+    pub store_other_n : get_or l 0 0 ≢ desks b → Stores 30 b
+    unfolding numbers_record
+    store_other_n other = thirty (and_left_fails (ne_eqb _ _ other) _)
 
-    pub store-other-opening : sameOpening (desks b) (recordView R) (pileOf b (place b number)) ≡ false → Stores 30 b
-    store-other-opening other = thirty (and-right-fails _ other)
+    pub store_other_opening : same_opening (desks b) (record_view R) (pile_of b (place b number)) ≡ false → Stores 30 b
+    store_other_opening other = thirty (and_right_fails _ other)
 
-    pub store-done : get_or l 0 0 ≡ desks b → sameOpening (desks b) (recordView R) (pileOf b (place b number)) ≡ true → {at : ℕ} {after : List ℕ}
-        → at ≡ bodyAt (headOf b) (place b number) → after ≡ afterPack l at b → Stores 0 after
-    unfolding numbersRecord
-    store-done n-is opening placed packed =
-        let sizes = (book-facts b (fetched-readable b number found)).sizes in
-        let sized = list-sized l passes in
+    pub store_done : get_or l 0 0 ≡ desks b → same_opening (desks b) (record_view R) (pile_of b (place b number)) ≡ true → {at : ℕ} {after : List ℕ}
+        → at ≡ body_at (head_of b) (place b number) → after ≡ after_pack l at b → Stores 0 after
+    unfolding numbers_record
+    store_done n-is opening placed packed =
+        let sizes = (book_facts b (fetched_readable b number found)).sizes in
+        let sized = list_sized l passes in
         let written =
-        pack-leaves l _ b sized (omega (arith, sizes.desks-least)) (omega (arith, sizes.desks-most)) (rw (placed, n-is) (body-room b number found)) packed
+        pack_leaves l _ b sized (omega (arith, sizes.desks_least)) (omega (arith, sizes.desks_most)) (rw (placed, n-is) (body_room b number found)) packed
         in
-        store-list sized (lines.store-accepted b number R found (list-passes l passes) (and_both (eq-eqb _ _ n-is) opening) placed (rw n-is at written))
+        store_list sized (lines.store_accepted b number R found (list_passes l passes) (and_both (eq-eqb _ _ n-is) opening) placed (rw n-is at written))
 
 -- a record's own numbers are stored as the record
-pub store-struct : (b : List ℕ) (number : ℕ) (r : Record) → InMemory r
-    → {l : List ℕ} {m : ℕ} {after : List ℕ} → l ≡ recordNumbers r → (m ≡ storeNumbersAnswer b number l) × (after ≡ afterStoreNumbers b number l)
-    → (m ≡ storeAnswer b number r) × (after ≡ afterStore b number r)
-store-struct b number r arrays {l} is stored =
-    let again : numbersRecord l ≡ r = ap numbersRecord is ∙ numbers-again r arrays.shares-long arrays.tallies-long in
-    let same = stored-record b number l (ap length is ∙ length-record r arrays.shares-long arrays.tallies-long) stored in
-    (same.0 ∙ ap (storeAnswer b number) again, same.1 ∙ ap (afterStore b number) again)
+pub store_struct : (b : List ℕ) (number : ℕ) (r : Record) → InMemory r
+    → {l : List ℕ} {m : ℕ} {after : List ℕ} → l ≡ record_numbers r → (m ≡ store_numbers_answer b number l) × (after ≡ after_store_numbers b number l)
+    → (m ≡ store_answer b number r) × (after ≡ after_store b number r)
+store_struct b number r arrays {l} is stored =
+    let again : numbers_record l ≡ r = ap numbers_record is ∙ numbers_again r arrays.shares_long arrays.tallies_long in
+    let same = stored_record b number l (ap length is ∙ length_record r arrays.shares_long arrays.tallies_long) stored in
+    (same.0 ∙ ap (store_answer b number) again, same.1 ∙ ap (after_store b number) again)

@@ -11,83 +11,83 @@ use lib.Dec.{lit<, eqb}
 use borrow.Author.Tests.{eqb-true, eq-eqb}
 use Rattle.rules.specs.Loops.{◌and◌, every}
 use Rattle.rules.specs.Numbers.{number}
-use Rattle.rules.specs.Pile.{Side, draw, tip, Pile, sameOpening}
-use Rattle.rules.specs.Layout.{rowLength, bodyLength, cell_at, column, bodyView}
-use Rattle.rules.specs.Record.{recordCell, recordView, rowPlaces}
+use Rattle.rules.specs.Pile.{Side, draw, tip, Pile, same_opening}
+use Rattle.rules.specs.Layout.{row_length, body_length, cell_at, column, body_view}
+use Rattle.rules.specs.Record.{record_cell, record_view, row_places}
 use Rattle.rules.proofs.Loops.Logic.{same, and_left, and_right, and_both}
-use Rattle.rules.proofs.Loops.Every.{every-at, every-all}
+use Rattle.rules.proofs.Loops.Every.{every_at, every_all}
 use Rattle.rules.proofs.Pile.Facts.{both_at}
-use Rattle.rules.proofs.Pile.Agree.{same-opening}
-use Rattle.rules.proofs.File.Body.{column-below, row_within}
-use Rattle.padding.specs.Lists.{numbersRecord}
-use Rattle.padding.proofs.Cells.{record-cell}
+use Rattle.rules.proofs.Pile.Agree.{same_opening_lem}
+use Rattle.rules.proofs.File.Body.{column_below, row_within}
+use Rattle.padding.specs.Lists.{numbers_record}
+use Rattle.padding.proofs.Cells.{record_cell_lem}
 
 -- the runs: floor, top and draw shares, and the tip shares, so many bytes behind the body's start
-abbrev pub firstRun : List ℕ → ℕ → List ℕ → ℕ → Bool
-firstRun b at l k = eqb (get_or l (1 + k) 0) (number 4 b (at + k * 4))
+abbrev pub first_run : List ℕ → ℕ → List ℕ → ℕ → Bool
+first_run b at l k = eqb (get_or l (1 + k) 0) (number 4 b (at + k * 4))
 
-abbrev pub secondRun : List ℕ → ℕ → List ℕ → ℕ → ℕ → Bool
-secondRun b at l behind k = eqb (get_or l (11 + k) 0) (number 4 b (at + behind + k * 4))
+abbrev pub second_run : List ℕ → ℕ → List ℕ → ℕ → ℕ → Bool
+second_run b at l behind k = eqb (get_or l (11 + k) 0) (number 4 b (at + behind + k * 4))
 
 module _ (l b : List ℕ) (at n : ℕ) (n≤8 : n ≤ 8) where
   abbrev R : Pile
-  R = recordView (numbersRecord l)
+  R = record_view (numbers_record l)
 
   abbrev B : Pile
-  B = bodyView n b at
+  B = body_view n b at
 
-  abbrev first_run : ℕ → Bool
-  first_run = firstRun b at l
+  abbrev first_run_here : ℕ → Bool
+  first_run_here = first_run b at l
 
-  abbrev second_run : ℕ → Bool
-  second_run = secondRun b at l (8 + 4 * n)
+  abbrev second_run_here : ℕ → Bool
+  second_run_here = second_run b at l (8 + 4 * n)
 
   -- a place of either as a cell of the opening
-  of-list : (c : ℕ) → c < rowPlaces → recordCell (numbersRecord l) 0 c ≡ get_or l (1 + c) 0
-  of-list c c<row = record-cell l 0 c (lit< tt) c<row ∙ ap (λ (k : ℕ). get_or l k 0) (omega arith)
+  of_list : (c : ℕ) → c < row_places → record_cell (numbers_record l) 0 c ≡ get_or l (1 + c) 0
+  of_list c c<row = record_cell_lem l 0 c (lit< tt) c<row ∙ ap (λ (k : ℕ). get_or l k 0) (omega arith)
 
-  of-body : (c : ℕ) {place : ℕ} → place ≡ at + c * 4 → number 4 b (at + cell_at n 0 c) ≡ number 4 b place
+  of_body : (c : ℕ) {place : ℕ} → place ≡ at + c * 4 → number 4 b (at + cell_at n 0 c) ≡ number 4 b place
   unfolding cell_at
-  of-body c is = ap (number 4 b) (omega (arith, is))
+  of_body c is = ap (number 4 b) (omega (arith, is))
 
-  share-list : (s : Side) (i : ℕ) → i < n → R.share s i ≡ get_or l (1 + column 8 s i) 0
-  share-list s i i<n = of-list (column 8 s i) (column-below 8 s i (omega arith))
+  share_list : (s : Side) (i : ℕ) → i < n → R.share s i ≡ get_or l (1 + column 8 s i) 0
+  share_list s i i<n = of_list (column 8 s i) (column_below 8 s i (omega arith))
 
-  alike : every (2 + n) first_run and every n second_run ≡ true → sameOpening n R B ≡ true
+  alike : every (2 + n) first_run_here and every n second_run_here ≡ true → same_opening n R B ≡ true
   alike e =
-      same-opening n R B
-      (of-list 0 (lit< tt) ∙ eqb-true _ _ (every-at (2 + n) first_run (and_left _ _ e) 0 (omega arith)) ∙ sym (of-body 0 (omega arith)))
-      (of-list 1 (lit< tt) ∙ eqb-true _ _ (every-at (2 + n) first_run (and_left _ _ e) 1 (omega arith)) ∙ sym (of-body 1 (omega arith)))
+      same_opening_lem n R B
+      (of_list 0 (lit< tt) ∙ eqb-true _ _ (every_at (2 + n) first_run_here (and_left _ _ e) 0 (omega arith)) ∙ sym (of_body 0 (omega arith)))
+      (of_list 1 (lit< tt) ∙ eqb-true _ _ (every_at (2 + n) first_run_here (and_left _ _ e) 1 (omega arith)) ∙ sym (of_body 1 (omega arith)))
       share
     where
       share : (s : Side) (i : ℕ) → i < n → R.share s i ≡ B.share s i
       share draw i i<n =
-          share-list draw i i<n ∙ eqb-true _ _ (every-at (2 + n) first_run (and_left _ _ e) (2 + i) (omega arith)) ∙ sym (of-body (2 + i) (omega arith))
+          share_list draw i i<n ∙ eqb-true _ _ (every_at (2 + n) first_run_here (and_left _ _ e) (2 + i) (omega arith)) ∙ sym (of_body (2 + i) (omega arith))
       share tip i i<n =
-          share-list tip i i<n ∙ ap (λ (k : ℕ). get_or l k 0) (omega arith)
-          ∙ eqb-true _ _ (every-at n second_run (and_right _ _ e) i i<n) ∙ sym (of-body (2 + (n + i)) (omega arith))
+          share_list tip i i<n ∙ ap (λ (k : ℕ). get_or l k 0) (omega arith)
+          ∙ eqb-true _ _ (every_at n second_run_here (and_right _ _ e) i i<n) ∙ sym (of_body (2 + (n + i)) (omega arith))
 
-  runs : sameOpening n R B ≡ true → every (2 + n) first_run and every n second_run ≡ true
-  unfolding sameOpening
-  runs e = and_both (every-all (2 + n) first) (every-all n second)
+  runs : same_opening n R B ≡ true → every (2 + n) first_run_here and every n second_run_here ≡ true
+  unfolding same_opening
+  runs e = and_both (every_all (2 + n) first) (every_all n second)
     where
       share : (s : Side) (i : ℕ) → i < n → R.share s i ≡ B.share s i
-      share s i i<n = eqb-true _ _ (both_at _ (every-at n _ (and_right _ _ (and_right _ _ e)) i i<n) s)
+      share s i i<n = eqb-true _ _ (both_at _ (every_at n _ (and_right _ _ (and_right _ _ e)) i i<n) s)
 
-      first : (k : ℕ) → k < 2 + n → first_run k ≡ true
-      first zero k< = eq-eqb _ _ (sym (of-list 0 (lit< tt)) ∙ eqb-true _ _ (and_left _ _ e) ∙ of-body 0 (omega arith))
-      first (suc zero) k< = eq-eqb _ _ (sym (of-list 1 (lit< tt)) ∙ eqb-true _ _ (and_left _ _ (and_right _ _ e)) ∙ of-body 1 (omega arith))
+      first : (k : ℕ) → k < 2 + n → first_run_here k ≡ true
+      first zero k< = eq-eqb _ _ (sym (of_list 0 (lit< tt)) ∙ eqb-true _ _ (and_left _ _ e) ∙ of_body 0 (omega arith))
+      first (suc zero) k< = eq-eqb _ _ (sym (of_list 1 (lit< tt)) ∙ eqb-true _ _ (and_left _ _ (and_right _ _ e)) ∙ of_body 1 (omega arith))
       first (suc (suc i)) k< = let i<n : i < n = omega arith in
-          eq-eqb _ _ (ap (λ (k : ℕ). get_or l k 0) (omega arith) ∙ sym (share-list draw i i<n) ∙ share draw i i<n ∙ of-body (2 + i) {place = at + suc (suc i) * 4} (omega arith))
+          eq-eqb _ _ (ap (λ (k : ℕ). get_or l k 0) (omega arith) ∙ sym (share_list draw i i<n) ∙ share draw i i<n ∙ of_body (2 + i) {place = at + suc (suc i) * 4} (omega arith))
 
-      second : (i : ℕ) → i < n → second_run i ≡ true
+      second : (i : ℕ) → i < n → second_run_here i ≡ true
       second i i<n =
-          eq-eqb _ _ (ap (λ (k : ℕ). get_or l k 0) (omega arith) ∙ sym (share-list tip i i<n) ∙ share tip i i<n ∙ of-body (2 + (n + i)) (omega arith))
+          eq-eqb _ _ (ap (λ (k : ℕ). get_or l k 0) (omega arith) ∙ sym (share_list tip i i<n) ∙ share tip i i<n ∙ of_body (2 + (n + i)) (omega arith))
 
-  pub same_runs : every (2 + n) first_run and every n second_run ≡ sameOpening n R B
+  pub same_runs : every (2 + n) first_run_here and every n second_run_here ≡ same_opening n R B
   same_runs = same _ _ alike runs
 
 -- the opening's row lies within a body
-pub opening-within : (n : ℕ) → 8 * (n + 1) ≤ bodyLength n
-unfolding rowLength
-opening-within n = omega (arith, row_within n 0 (zero-lt-suc n))
+pub opening_within : (n : ℕ) → 8 * (n + 1) ≤ body_length n
+unfolding row_length
+opening_within n = omega (arith, row_within n 0 (zero-lt-suc n))

@@ -8,26 +8,26 @@ use lib.ListN.{length, get_or}
 use lib.Seq.{sets, take_all}
 use borrow.Author.Tests.{eqb-true, ltb-false, le-ltb}
 use Rattle.rules.specs.Numbers.{part}
-use Rattle.rules.specs.Book.{fetchAnswer}
-use Rattle.rules.specs.Record.{Record, sharePlaces, tallyPlaces, fetched, InMemory}
-use Rattle.rules.proofs.Loops.Refusals.{when-done, when-not-done, orElse-first, orElse-rest, none-met, not-met, when-accepted}
-use Rattle.rules.proofs.Loops.Pieces.{part-add}
+use Rattle.rules.specs.Book.{fetch_answer}
+use Rattle.rules.specs.Record.{Record, share_places, tally_places, fetched, InMemory}
+use Rattle.rules.proofs.Loops.Refusals.{when_done, when_not_done, or_else_first, or_else_rest, none_met, not_met, when_accepted}
+use Rattle.rules.proofs.Loops.Pieces.{part_add}
 use Rattle.rules.proofs.Loops.Parts.{length_part}
-use Rattle.rules.proofs.Loops.Sets.{part-sets}
-use Rattle.rules.proofs.Record.RecordOf.{length-shares, length-tallies}
-use Rattle.rules.proofs.Record.RoundTrip.{fetched-is, fetch-store, store-fetch}
-use Rattle.padding.specs.Lists.{sharesAt, talliesAt, recordLength, bodyNumbers, recordNumbers, numbersRecord}
-use Rattle.pile.proofs.RecordNumbers.{length-record, numbers-again}
-use Rattle.store.specs.Numbers.{fetchNumbersAnswer, afterFetchNumbers, storeNumbersAnswer}
-use Rattle.store.specs.Laws.{fetchedNumbers, FetchStoreNumbers, StoreFetchNumbers}
-use Rattle.store.proofs.Lists.{store-list, stored-record}
+use Rattle.rules.proofs.Loops.Sets.{part_sets}
+use Rattle.rules.proofs.Record.RecordOf.{length_shares, length_tallies}
+use Rattle.rules.proofs.Record.RoundTrip.{fetched_is, fetch_store, store_fetch}
+use Rattle.padding.specs.Lists.{shares_at, tallies_at, record_length, body_numbers, record_numbers, numbers_record}
+use Rattle.pile.proofs.RecordNumbers.{length_record, numbers_again}
+use Rattle.store.specs.Numbers.{fetch_numbers_answer, after_fetch_numbers, store_numbers_answer}
+use Rattle.store.specs.Laws.{fetched_numbers, FetchStoreNumbers, StoreFetchNumbers}
+use Rattle.store.proofs.Lists.{store_list, stored_record}
 
 -- a record's numbers are as many as a list must have
-sized : (r : Record) → InMemory r → length (recordNumbers r) ≡ recordLength
-sized r arrays = length-record r arrays.shares-long arrays.tallies-long
+sized : (r : Record) → InMemory r → length (record_numbers r) ≡ record_length
+sized r arrays = length_record r arrays.shares_long arrays.tallies_long
 
-again : (r : Record) → InMemory r → numbersRecord (recordNumbers r) ≡ r
-again r arrays = numbers-again r arrays.shares-long arrays.tallies-long
+again : (r : Record) → InMemory r → numbers_record (record_numbers r) ≡ r
+again r arrays = numbers_again r arrays.shares_long arrays.tallies_long
 
 -- and a list of that length is the numbers of its record
 first_three : (l : List ℕ) → 3 ≤ length l → part 0 3 l ≡ get_or l 0 0 ∷ get_or l 1 0 ∷ get_or l 2 0 ∷ []
@@ -36,60 +36,60 @@ first_three (x ∷ []) s = absurd (omega arith)
 first_three (x ∷ y ∷ []) s = absurd (omega arith)
 first_three (x ∷ y ∷ z ∷ l) s = refl
 
-module _ (l : List ℕ) (long : length l ≡ recordLength) where
-  list-in-memory : InMemory (numbersRecord l)
-  unfolding numbersRecord
-  list-in-memory =
+module _ (l : List ℕ) (long : length l ≡ record_length) where
+  list_in_memory : InMemory (numbers_record l)
+  unfolding numbers_record
+  list_in_memory =
       record {
-        shares-long = length_part sharesAt sharePlaces l (omega (arith, long));
-        tallies-long = length_part talliesAt tallyPlaces l (omega (arith, long));
+        shares_long = length_part shares_at share_places l (omega (arith, long));
+        tallies_long = length_part tallies_at tally_places l (omega (arith, long));
       }
 
-  list-again : recordNumbers (numbersRecord l) ≡ l
-  unfolding recordNumbers bodyNumbers numbersRecord
-  list-again =
-      ap (λ (front : List ℕ). front ++ (part sharesAt sharePlaces l ++ part talliesAt tallyPlaces l)) (sym (first_three l (omega (arith, long))))
-      ∙ ap (λ (back : List ℕ). part 0 3 l ++ back) (sym (part-add sharesAt sharePlaces tallyPlaces l))
-      ∙ sym (part-add 0 3 (sharePlaces + tallyPlaces) l)
-      ∙ take_all recordLength l (omega (arith, long))
+  list_again : record_numbers (numbers_record l) ≡ l
+  unfolding record_numbers body_numbers numbers_record
+  list_again =
+      ap (λ (front : List ℕ). front ++ (part shares_at share_places l ++ part tallies_at tally_places l)) (sym (first_three l (omega (arith, long))))
+      ∙ ap (λ (back : List ℕ). part 0 3 l ++ back) (sym (part_add shares_at share_places tally_places l))
+      ∙ sym (part_add 0 3 (share_places + tally_places) l)
+      ∙ take_all record_length l (omega (arith, long))
 
 -- what is fetched stands at the start of a list with room
-module _ (b : List ℕ) (number : ℕ) (out : List ℕ) (found : fetchAnswer b number ≡ 0) (room : recordLength ≤ length out) where
-  fetched-arrays : InMemory (fetched b number)
-  fetched-arrays =
-      rw (fetched-is b number found) (record { shares-long = length-shares _ _; tallies-long = length-tallies _ _ })
+module _ (b : List ℕ) (number : ℕ) (out : List ℕ) (found : fetch_answer b number ≡ 0) (room : record_length ≤ length out) where
+  fetched_arrays : InMemory (fetched b number)
+  fetched_arrays =
+      rw (fetched_is b number found) (record { shares_long = length_shares _ _; tallies_long = length_tallies _ _ })
 
-  answered : fetchNumbersAnswer b number (length out) ≡ 0
-  unfolding fetchNumbersAnswer
-  answered = none-met found (not-met 8 (le-ltb _ _ room))
+  answered : fetch_numbers_answer b number (length out) ≡ 0
+  unfolding fetch_numbers_answer
+  answered = none_met found (not_met 8 (le-ltb _ _ room))
 
-  fetched-list : fetchedNumbers b number out ≡ recordNumbers (fetched b number)
-  unfolding afterFetchNumbers
-  fetched-list =
-      let numbers = recordNumbers (fetched b number) in
-      let long = sized (fetched b number) fetched-arrays in
-      ap (part 0 recordLength) (when-accepted _ _ _ answered)
+  fetched_list : fetched_numbers b number out ≡ record_numbers (fetched b number)
+  unfolding after_fetch_numbers
+  fetched_list =
+      let numbers = record_numbers (fetched b number) in
+      let long = sized (fetched b number) fetched_arrays in
+      ap (part 0 record_length) (when_accepted _ _ _ answered)
       ∙ ap (λ (m : ℕ). part 0 m (sets out 0 numbers)) (sym long)
-      ∙ part-sets out 0 numbers (omega (arith, long))
+      ∙ part_sets out 0 numbers (omega (arith, long))
 
-pub fetch-store-numbers : FetchStoreNumbers
-unfolding fetchNumbersAnswer
-fetch-store-numbers b number out octets accepted =
-    let found = orElse-first _ _ accepted in
-    let room = ltb-false _ _ (when-done _ _ (orElse-rest _ _ accepted)) in
+pub fetch_store_numbers : FetchStoreNumbers
+unfolding fetch_numbers_answer
+fetch_store_numbers b number out octets accepted =
+    let found = or_else_first _ _ accepted in
+    let room = ltb-false _ _ (when_done _ _ (or_else_rest _ _ accepted)) in
     let r = fetched b number in
-    let arrays = fetched-arrays b number out found room in
-    let restored = fetch-store b number octets found in
-    let stored = store-list b number (recordNumbers r) (sized r arrays) {m = 0} {after = b} (rw (again r arrays) (sym restored.0, sym restored.1)) in
-    rw (fetched-list b number out found room) (sym stored.0, sym stored.1)
+    let arrays = fetched_arrays b number out found room in
+    let restored = fetch_store b number octets found in
+    let stored = store_list b number (record_numbers r) (sized r arrays) {m = 0} {after = b} (rw (again r arrays) (sym restored.0, sym restored.1)) in
+    rw (fetched_list b number out found room) (sym stored.0, sym stored.1)
 
-pub store-fetch-numbers : StoreFetchNumbers
-unfolding storeNumbersAnswer
-store-fetch-numbers b number l out octets accepted room =
-    let long : length l ≡ recordLength = eqb-true _ _ (when-not-done 2 _ (orElse-first _ _ (orElse-rest _ _ accepted))) in
-    let as-record = stored-record b number l long (sym accepted, refl) in
-    let kept = store-fetch b number (numbersRecord l) octets (list-in-memory l long) (sym as-record.0) in
-    rw as-record.1 (
+pub store_fetch_numbers : StoreFetchNumbers
+unfolding store_numbers_answer
+store_fetch_numbers b number l out octets accepted room =
+    let long : length l ≡ record_length = eqb-true _ _ (when_not_done 2 _ (or_else_first _ _ (or_else_rest _ _ accepted))) in
+    let as_record_lem = stored_record b number l long (sym accepted, refl) in
+    let kept = store_fetch b number (numbers_record l) octets (list_in_memory l long) (sym as_record_lem.0) in
+    rw as_record_lem.1 (
       answered _ number out kept.0 room,
-      fetched-list _ number out kept.0 room ∙ ap recordNumbers kept.1 ∙ list-again l long,
+      fetched_list _ number out kept.0 room ∙ ap record_numbers kept.1 ∙ list_again l long,
     )

@@ -2,10 +2,10 @@
 mod same;
 
 ghost use Rattle.std.specs.Prelude.{◌≡◌, length};
-ghost use Rattle.rules.specs.Book.{fetchAnswer};
-ghost use Rattle.rules.specs.Record.{fetched, storeAnswer, afterStore};
-ghost use Rattle.pile.specs.View.{asRecord};
-ghost use Rattle.store.specs.Numbers.{fetchNumbersAnswer, afterFetchNumbers, storeNumbersAnswer, afterStoreNumbers};
+ghost use Rattle.rules.specs.Book.{fetch_answer};
+ghost use Rattle.rules.specs.Record.{fetched, store_answer, after_store};
+ghost use Rattle.pile.specs.View.{as_record};
+ghost use Rattle.store.specs.Numbers.{fetch_numbers_answer, after_fetch_numbers, store_numbers_answer, after_store_numbers};
 
 use book::seek;
 use padding::{check_record, pack, pad};
@@ -14,8 +14,8 @@ use same::same_opening;
 
 // The pile of a number, as a record; refused with 1 to 7 or 10, and then all zeros.
 pub fn fetch(book: &[u8], number: u16) -> Outcome
-    ensures answer { result.answer ≡ fetchAnswer book.now number }
-    ensures pile { asRecord result.pile ≡ fetched book.now number }
+    ensures answer { result.answer ≡ fetch_answer book.now number }
+    ensures pile { as_record result.pile ≡ fetched book.now number }
 {
     let found = seek(book, 0, number);
     let refusal = found.answer;
@@ -33,8 +33,8 @@ pub fn fetch(book: &[u8], number: u16) -> Outcome
 
 // Stores a record as the body of its pile; refused with 1 to 7 or 10 for the book, then 2, 5, 6 or 7 for the record, then 30 where n or opening differs.
 pub fn store(book: &mut [u8], number: u16, pile: Pile) -> u8
-    ensures answer { result ≡ storeAnswer book.old number (asRecord pile) }
-    ensures book { book.new ≡ afterStore book.old number (asRecord pile) }
+    ensures answer { result ≡ store_answer book.old number (as_record pile) }
+    ensures book { book.new ≡ after_store book.old number (as_record pile) }
 {
     let numbers = pile.numbers();
     store_numbers(book, number, &numbers)
@@ -42,8 +42,8 @@ pub fn store(book: &mut [u8], number: u16, pile: Pile) -> u8
 
 // Fetches a pile into a lent list; refused with 1 to 7 or 10, and last with 8 where the list is shorter than a record. Numbers past the record stay.
 pub fn fetch_numbers(book: &[u8], number: u16, out: &mut [u32]) -> u8
-    ensures answer { result ≡ fetchNumbersAnswer book.now number (length out.old) }
-    ensures out { out.new ≡ afterFetchNumbers book.now number out.old }
+    ensures answer { result ≡ fetch_numbers_answer book.now number (length out.old) }
+    ensures out { out.new ≡ after_fetch_numbers book.now number out.old }
 {
     let found = seek(book, 0, number);
     let refusal = found.answer;
@@ -56,8 +56,8 @@ pub fn fetch_numbers(book: &[u8], number: u16, out: &mut [u32]) -> u8
 // Stores a list as the record of a pile; refused with 1 to 7 or 10 for the book, then 3 where the list has another length than a record, then 2, 5, 6 or 7
 // for the record, then 30 where n or opening differs.
 pub fn store_numbers(book: &mut [u8], number: u16, numbers: &[u32]) -> u8
-    ensures answer { result ≡ storeNumbersAnswer book.old number numbers.now }
-    ensures book { book.new ≡ afterStoreNumbers book.old number numbers.now }
+    ensures answer { result ≡ store_numbers_answer book.old number numbers.now }
+    ensures book { book.new ≡ after_store_numbers book.old number numbers.now }
 {
     let found = seek(book, 0, number);
     let refusal = found.answer;

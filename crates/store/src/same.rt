@@ -2,10 +2,10 @@
 ghost use Rattle.std.specs.Prelude.{◌≡◌, ◌+◌, ◌*◌, get_or, eqb};
 ghost use Rattle.rules.specs.Loops.{every};
 ghost use Rattle.rules.specs.Numbers.{number};
-ghost use Rattle.rules.specs.Pile.{sameOpening};
-ghost use Rattle.rules.specs.Layout.{bodyView};
-ghost use Rattle.rules.specs.Record.{recordView};
-ghost use Rattle.padding.specs.Lists.{numbersRecord};
+ghost use Rattle.rules.specs.Pile.{same_opening};
+ghost use Rattle.rules.specs.Layout.{body_view};
+ghost use Rattle.rules.specs.Record.{record_view};
+ghost use Rattle.padding.specs.Lists.{numbers_record};
 ghost use Rattle.padding.specs.Inner.{RunFits, RowsFit};
 
 use layout::cells::{cell_at, side_column};
@@ -33,7 +33,7 @@ fn same_run(book: &[u8], at: usize, numbers: &[u32], from: usize, count: usize) 
 // Do floor, top and the shares of n desks agree?
 pub(crate) fn same_opening(book: &[u8], at: usize, numbers: &[u32], n: u8) -> bool
     requires { RowsFit n at book.now numbers.now }
-    ensures { result ≡ sameOpening n (recordView (numbersRecord numbers.now)) (bodyView n book.now at) }
+    ensures { result ≡ same_opening n (record_view (numbers_record numbers.now)) (body_view n book.now at) }
 {
     // As many columns stand before those of tip.
     let front = side_column(n, 1, 0);

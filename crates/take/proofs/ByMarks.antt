@@ -8,34 +8,34 @@ use mathlib.Core.List.{List}
 use lib.ListN.{get_or}
 use lib.Seq.{sets}
 use Rattle.rules.specs.Loops.{flat, count}
-use Rattle.rules.specs.Layout.{Head, headOf, rowLength, frontLength, desks, piles}
-use Rattle.rules.specs.Take.{takeAnswer, afterTake, takeReport}
-use Rattle.rules.proofs.Loops.Counts.{count-cong}
-use Rattle.rules.proofs.Loops.Pieces.{flat-cong}
-use Rattle.rules.proofs.Take.InPlace.{own-facts, copy-facts, same-desks, same_count, after-take}
+use Rattle.rules.specs.Layout.{Head, head_of, row_length, front_length, desks, piles}
+use Rattle.rules.specs.Take.{take_answer, after_take, take_report}
+use Rattle.rules.proofs.Loops.Counts.{count_cong}
+use Rattle.rules.proofs.Loops.Pieces.{flat_cong}
+use Rattle.rules.proofs.Take.InPlace.{own_facts, copy_facts, same_desks, same_count, after_take_lem}
 use Rattle.rules.proofs.Take.Report.{report}
 use Rattle.take.specs.Inner.{RowsInBoth, AllMarked}
-use Rattle.take.proofs.InOrder.{rows-in-both}
+use Rattle.take.proofs.InOrder.{rows_in_both}
 use Rattle.take.proofs.Moved.{moved}
 
-module _ (d : ℕ) (own copy : List ℕ) (accepted : takeAnswer d own copy ≡ 0) where
+module _ (d : ℕ) (own copy : List ℕ) (accepted : take_answer d own copy ≡ 0) where
   abbrev h : Head
-  h = headOf own
+  h = head_of own
 
-  pub rows-there : {at row rows : ℕ} → at ≡ frontLength h → row ≡ rowLength (desks own) → rows ≡ piles own * suc (desks own)
+  pub rows_there : {at row rows : ℕ} → at ≡ front_length h → row ≡ row_length (desks own) → rows ≡ piles own * suc (desks own)
       → RowsInBoth at row rows own copy
-  rows-there at-is row_is rows_are =
-      rw (at-is, row_is, rows_are) (rows-in-both own copy (own-facts d own copy accepted) (copy-facts d own copy accepted) (same-desks d own copy accepted)
+  rows_there at-is row_is rows_are =
+      rw (at-is, row_is, rows_are) (rows_in_both own copy (own_facts d own copy accepted) (copy_facts d own copy accepted) (same_desks d own copy accepted)
       (same_count d own copy accepted))
 
   module _ {marks : List Bool} (marked : AllMarked h own copy marks) where
-    pub marks-counted : {rows : ℕ} → rows ≡ piles own * suc (desks own) → count rows (λ k. get_or marks k false) ≡ takeReport d own copy
-    marks-counted rows_are = rw rows_are (count-cong (piles own * suc (desks own)) marked.said ∙ report d own copy accepted)
+    pub marks_counted : {rows : ℕ} → rows ≡ piles own * suc (desks own) → count rows (λ k. get_or marks k false) ≡ take_report d own copy
+    marks_counted rows_are = rw rows_are (count_cong (piles own * suc (desks own)) marked.said ∙ report d own copy accepted)
 
-    pub rows_taken : {at row rows : ℕ} → at ≡ frontLength h → row ≡ rowLength (desks own) → rows ≡ piles own * suc (desks own)
-        → sets own at (flat rows (λ k. moved own copy (at + k * row) row (get_or marks k false))) ≡ afterTake d own copy
+    pub rows_taken : {at row rows : ℕ} → at ≡ front_length h → row ≡ row_length (desks own) → rows ≡ piles own * suc (desks own)
+        → sets own at (flat rows (λ k. moved own copy (at + k * row) row (get_or marks k false))) ≡ after_take d own copy
     rows_taken at-is row_is rows_are =
-        let there : ℕ → ℕ = λ k. frontLength h + k * rowLength (desks own) in
+        let there : ℕ → ℕ = λ k. front_length h + k * row_length (desks own) in
         rw (at-is, row_is, rows_are)
-        (ap (sets own (frontLength h)) (flat-cong (piles own * suc (desks own)) (λ k l. ap (moved own copy (there k) (rowLength (desks own))) (marked.said k l)))
-        ∙ after-take d own copy accepted)
+        (ap (sets own (front_length h)) (flat_cong (piles own * suc (desks own)) (λ k l. ap (moved own copy (there k) (row_length (desks own))) (marked.said k l)))
+        ∙ after_take_lem d own copy accepted)

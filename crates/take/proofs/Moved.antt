@@ -12,6 +12,6 @@ use Rattle.take.specs.Inner.{InBoth}
 abbrev pub moved : List ℕ → List ℕ → ℕ → ℕ → Bool → List ℕ
 moved own copy at row marked = cond marked (part at row copy) (part at row own)
 
-pub moved-long : {own copy : List ℕ} {at row : ℕ} → InBoth at row own copy → (marked : Bool) → length (moved own copy at row marked) ≡ row
-moved-long {own} {copy} {at} {row} fits true = length_part at row copy fits.in-copy
-moved-long {own} {copy} {at} {row} fits false = length_part at row own fits.in-own
+pub moved_long : {own copy : List ℕ} {at row : ℕ} → InBoth at row own copy → (marked : Bool) → length (moved own copy at row marked) ≡ row
+moved_long {own} {copy} {at} {row} fits true = length_part at row copy fits.in_copy
+moved_long {own} {copy} {at} {row} fits false = length_part at row own fits.in_own

@@ -3,12 +3,12 @@ ghost use Rattle.std.specs.Prelude.{◌≡◌, suc, ◌+◌, ◌*◌, eqb};
 ghost use Rattle.rules.specs.Loops.{◌and◌, every};
 ghost use Rattle.rules.specs.Refusals.{first};
 ghost use Rattle.rules.specs.Numbers.{part};
-ghost use Rattle.rules.specs.Layout.{headOf, rowLength, frontLength, pileNumber};
-ghost use Rattle.rules.specs.Rows.{compared, isAlike, isCopyLater};
-ghost use Rattle.rules.specs.Take.{rowAnswer, takeAnswer};
-ghost use Rattle.rows.specs.Comparisons.{asComparison};
-ghost use Rattle.layout.specs.Positions.{asHead};
-ghost use Rattle.take.specs.Inner.{InBoth, Alongside, openingPart, comparedAt, Blank, Marked, AllMarked, DesksAhead, PilesAhead};
+ghost use Rattle.rules.specs.Layout.{head_of, row_length, front_length, pile_number};
+ghost use Rattle.rules.specs.Rows.{compared, is_alike, is_copy_later};
+ghost use Rattle.rules.specs.Take.{row_answer, take_answer};
+ghost use Rattle.rows.specs.Comparisons.{as_comparison};
+ghost use Rattle.layout.specs.Positions.{as_head};
+ghost use Rattle.take.specs.Inner.{InBoth, Alongside, opening_part, compared_at, Blank, Marked, AllMarked, DesksAhead, PilesAhead};
 
 use book::check;
 use layout::contents::entry_number;
@@ -22,7 +22,7 @@ const OF_COPY: u8 = 20;
 // Compares the rows at one position of both books.
 pub(crate) fn compare_at(own: &[u8], copy: &[u8], at: usize, row: usize) -> Comparison
     requires { InBoth at row own.now copy.now }
-    ensures { asComparison result ≡ compared (part at row own.now) (part at row copy.now) }
+    ensures { as_comparison result ≡ compared (part at row own.now) (part at row copy.now) }
 {
     compare(&own[at..at + row], &copy[at..at + row])
 }
@@ -30,7 +30,7 @@ pub(crate) fn compare_at(own: &[u8], copy: &[u8], at: usize, row: usize) -> Comp
 // Are the rows at one position alike?
 fn alike_at(own: &[u8], copy: &[u8], at: usize, row: usize) -> bool
     requires { InBoth at row own.now copy.now }
-    ensures { result ≡ isAlike (compared (part at row own.now) (part at row copy.now)) }
+    ensures { result ≡ is_alike (compared (part at row own.now) (part at row copy.now)) }
 {
     match compare_at(own, copy, at, row) {
         Comparison::Alike => true,
@@ -51,8 +51,8 @@ struct Judged {
 // 31 where the rows at one position are split; 32 where they are those of the taker's own desk, as `takers` says, and the copy's is later.
 fn judge_row(own: &[u8], copy: &[u8], at: usize, row: usize, takers: bool) -> Judged
     requires { InBoth at row own.now copy.now }
-    ensures answer { result.answer ≡ rowAnswer takers (compared (part at row own.now) (part at row copy.now)) }
-    ensures later { result.later ≡ isCopyLater (compared (part at row own.now) (part at row copy.now)) }
+    ensures answer { result.answer ≡ row_answer takers (compared (part at row own.now) (part at row copy.now)) }
+    ensures later { result.later ≡ is_copy_later (compared (part at row own.now) (part at row copy.now)) }
 {
     match compare_at(own, copy, at, row) {
         Comparison::Alike => Judged {
@@ -99,8 +99,8 @@ fn desks_answer(
     marks: &mut [bool],
 ) -> u8
     requires { DesksAhead front n from own.now copy.now marks.old }
-    ensures answer { result ≡ first n (λ i. rowAnswer (eqb i desk) (comparedAt front (rowLength n) own.now copy.now (from + i))) }
-    ensures marks { result ≡ 0 → Marked front (rowLength n) (from + n) own.now copy.now marks.new }
+    ensures answer { result ≡ first n (λ i. row_answer (eqb i desk) (compared_at front (row_length n) own.now copy.now (from + i))) }
+    ensures marks { result ≡ 0 → Marked front (row_length n) (from + n) own.now copy.now marks.new }
 {
     let row = row_length(n);
     let mut i: u8 = 0;
@@ -123,10 +123,10 @@ fn desks_answer(
 // The first refusal of all rows, by pile and then by desk; where there is none, the marks say which rows are later in the copy. Openings are alike, and not
 // looked at again.
 fn piles_answer(own: &[u8], copy: &[u8], head: Head, desk: u8, marks: &mut [bool]) -> u8
-    requires { PilesAhead (asHead head) own.now copy.now marks.old }
-    ensures answer { result ≡ first head.piles (λ k. first head.desks (λ i. rowAnswer (eqb i desk)
-        (comparedAt (frontLength (asHead head)) (rowLength head.desks) own.now copy.now (k * suc head.desks + suc i)))) }
-    ensures marks { result ≡ 0 → AllMarked (asHead head) own.now copy.now marks.new }
+    requires { PilesAhead (as_head head) own.now copy.now marks.old }
+    ensures answer { result ≡ first head.piles (λ k. first head.desks (λ i. row_answer (eqb i desk)
+        (compared_at (front_length (as_head head)) (row_length head.desks) own.now copy.now (k * suc head.desks + suc i)))) }
+    ensures marks { result ≡ 0 → AllMarked (as_head head) own.now copy.now marks.new }
 {
     let front = front_length(head);
     let n = head.desks;
@@ -146,9 +146,9 @@ fn piles_answer(own: &[u8], copy: &[u8], head: Head, desk: u8, marks: &mut [bool
 
 // Do the pile numbers and the opening rows agree, pile by pile?
 fn same_piles(own: &[u8], copy: &[u8], head: Head) -> bool
-    requires { Alongside (asHead head) own.now copy.now }
-    ensures { result ≡ every head.piles (λ k. eqb (pileNumber own.now k) (pileNumber copy.now k)
-        and isAlike (compared (openingPart (asHead head) k own.now) (openingPart (asHead head) k copy.now))) }
+    requires { Alongside (as_head head) own.now copy.now }
+    ensures { result ≡ every head.piles (λ k. eqb (pile_number own.now k) (pile_number copy.now k)
+        and is_alike (compared (opening_part (as_head head) k own.now) (opening_part (as_head head) k copy.now))) }
 {
     let size = body_length(head.desks);
     let row = row_length(head.desks);
@@ -172,8 +172,8 @@ fn same_piles(own: &[u8], copy: &[u8], head: Head) -> bool
 // All lines of the table, in their order; where none is met, the marks say which rows are later in the copy.
 pub(crate) fn take_answer(own: &[u8], copy: &[u8], desk: u8, marks: &mut [bool]) -> u8
     requires { Blank marks.old }
-    ensures answer { result ≡ takeAnswer desk own.now copy.now }
-    ensures marks { result ≡ 0 → AllMarked (headOf own.now) own.now copy.now marks.new }
+    ensures answer { result ≡ take_answer desk own.now copy.now }
+    ensures marks { result ≡ 0 → AllMarked (head_of own.now) own.now copy.now marks.new }
 {
     let mine = check(own);
     if mine != 0 {

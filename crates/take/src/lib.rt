@@ -4,7 +4,7 @@ mod judge;
 mod merge;
 
 ghost use Rattle.std.specs.Prelude.{◌≡◌};
-ghost use Rattle.rules.specs.Take.{takeAnswer, afterTake, takeReport};
+ghost use Rattle.rules.specs.Take.{take_answer, after_take, take_report};
 
 use judge::take_answer;
 use layout::head::{front_length, head_of, rows_of};
@@ -21,9 +21,9 @@ pub struct Taken {
 // Takes a copy of another desk's book into the own one, a state-based merge; refused with 1 to 7 for the own book, 21 to 27 for the copy, then 11, 30,
 // and by pile and desk 31 or 32. No row is written before the last pile is judged. A copy that changes no row leaves the book's bytes as they were.
 pub fn take(own: &mut [u8], copy: &[u8], desk: u8) -> Taken
-    ensures answer { result.answer ≡ takeAnswer desk own.old copy.now }
-    ensures changed { result.changed ≡ takeReport desk own.old copy.now }
-    ensures book { own.new ≡ afterTake desk own.old copy.now }
+    ensures answer { result.answer ≡ take_answer desk own.old copy.now }
+    ensures changed { result.changed ≡ take_report desk own.old copy.now }
+    ensures book { own.new ≡ after_take desk own.old copy.now }
 {
     let mut marks = [false; ROWS];
     let answer = take_answer(own, copy, desk, &mut marks);

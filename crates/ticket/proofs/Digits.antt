@@ -15,120 +15,120 @@ use borrow.Author.Tests.{leb-true, le-leb}
 use Rattle.rules.specs.Loops.{◌and◌, every}
 use Rattle.rules.specs.Numbers.{part}
 use Rattle.rules.proofs.Loops.Logic.{and_left, and_right, and_both}
-use Rattle.rules.proofs.Loops.Every.{every-cong}
-use Rattle.rules.proofs.Loops.Sets.{sets-append}
-use Rattle.ticket.specs.Packed.{pairNumber, pairByte, pairRight, packedNumber, packedBytes, digitsRight}
+use Rattle.rules.proofs.Loops.Every.{every_cong}
+use Rattle.rules.proofs.Loops.Sets.{sets_append}
+use Rattle.ticket.specs.Packed.{pair_number, pair_byte, pair_right, packed_number, packed_bytes, digits_right}
 use Rattle.ticket.specs.Laws.{PackedForm, OnePackedForm}
 
 -- one byte
-pair_read : (x : ℕ) → x < 100 → pairNumber (pairByte x) ≡ x
+pair_read : (x : ℕ) → x < 100 → pair_number (pair_byte x) ≡ x
 pair_read x l = omega arith
 
-pair-right : (x : ℕ) → x < 100 → pairRight (pairByte x) ≡ true
-unfolding pairRight
-pair-right x l = and_both (le-leb (pairByte x / 16) 9 (omega arith)) (le-leb (pairByte x % 16) 9 (omega arith))
+pair_right_lem : (x : ℕ) → x < 100 → pair_right (pair_byte x) ≡ true
+unfolding pair_right
+pair_right_lem x l = and_both (le-leb (pair_byte x / 16) 9 (omega arith)) (le-leb (pair_byte x % 16) 9 (omega arith))
 
-right-digits : (b : ℕ) → pairRight b ≡ true → (b / 16 ≤ 9) × (b % 16 ≤ 9)
-unfolding pairRight
-right-digits b e = (leb-true _ _ (and_left _ _ e), leb-true _ _ (and_right _ _ e))
+right_digits : (b : ℕ) → pair_right b ≡ true → (b / 16 ≤ 9) × (b % 16 ≤ 9)
+unfolding pair_right
+right_digits b e = (leb-true _ _ (and_left _ _ e), leb-true _ _ (and_right _ _ e))
 
-pair-below : (b : ℕ) → pairRight b ≡ true → pairNumber b < 100
-pair-below b e = let d = right-digits b e in omega (arith, d.0, d.1)
+pair_below : (b : ℕ) → pair_right b ≡ true → pair_number b < 100
+pair_below b e = let d = right_digits b e in omega (arith, d.0, d.1)
 
-pair-written : (b : ℕ) → pairRight b ≡ true → pairByte (pairNumber b) ≡ b
-pair-written b e = let d = right-digits b e in omega (arith, d.0, d.1)
+pair_written : (b : ℕ) → pair_right b ≡ true → pair_byte (pair_number b) ≡ b
+pair_written b e = let d = right_digits b e in omega (arith, d.0, d.1)
 
-length-packed : (w x : ℕ) → length (packedBytes w x) ≡ w
-unfolding packedBytes
-length-packed zero x = refl
-length-packed (suc w) x = length-append (packedBytes w (x / 100)) _ ∙ omega (arith, length-packed w (x / 100))
+length_packed : (w x : ℕ) → length (packed_bytes w x) ≡ w
+unfolding packed_bytes
+length_packed zero x = refl
+length_packed (suc w) x = length-append (packed_bytes w (x / 100)) _ ∙ omega (arith, length_packed w (x / 100))
 
 -- what packed bytes say depends on these bytes alone
 module _ (b b' : List ℕ) (at at' : ℕ) where
-  packed-cong : (w : ℕ) → ((j : ℕ) → j < w → get_or b (at + j) 0 ≡ get_or b' (at' + j) 0) → packedNumber w b at ≡ packedNumber w b' at'
-  unfolding packedNumber
-  packed-cong zero h = refl
-  packed-cong (suc w) h = ap₂ (λ (x y : ℕ). 100 * x + pairNumber y) (packed-cong w (λ j l. h j (le_step l))) (h w (le_refl (suc w)))
+  packed_cong : (w : ℕ) → ((j : ℕ) → j < w → get_or b (at + j) 0 ≡ get_or b' (at' + j) 0) → packed_number w b at ≡ packed_number w b' at'
+  unfolding packed_number
+  packed_cong zero h = refl
+  packed_cong (suc w) h = ap₂ (λ (x y : ℕ). 100 * x + pair_number y) (packed_cong w (λ j l. h j (le_step l))) (h w (le_refl (suc w)))
 
-  right-cong : (w : ℕ) → ((j : ℕ) → j < w → get_or b (at + j) 0 ≡ get_or b' (at' + j) 0) → digitsRight w b at ≡ digitsRight w b' at'
-  unfolding digitsRight
-  right-cong w h = every-cong w (λ j l. ap pairRight (h j l))
+  right_cong : (w : ℕ) → ((j : ℕ) → j < w → get_or b (at + j) 0 ≡ get_or b' (at' + j) 0) → digits_right w b at ≡ digits_right w b' at'
+  unfolding digits_right
+  right_cong w h = every_cong w (λ j l. ap pair_right (h j l))
 
 -- a number that was written is read again
-last_byte : (w x : ℕ) → get_or (packedBytes (suc w) x) (0 + w) 0 ≡ pairByte (x % 100)
-unfolding packedBytes
-last_byte w x = get_or_at (packedBytes w (x / 100)) _ [] 0 (0 + w) (length-packed w (x / 100) ∙ sym (zero-add w))
+last_byte : (w x : ℕ) → get_or (packed_bytes (suc w) x) (0 + w) 0 ≡ pair_byte (x % 100)
+unfolding packed_bytes
+last_byte w x = get_or_at (packed_bytes w (x / 100)) _ [] 0 (0 + w) (length_packed w (x / 100) ∙ sym (zero-add w))
 
-other-bytes : (w x j : ℕ) → j < w → get_or (packedBytes (suc w) x) (0 + j) 0 ≡ get_or (packedBytes w (x / 100)) (0 + j) 0
-unfolding packedBytes
-other-bytes w x j l = get_or-append (packedBytes w (x / 100)) _ 0 (0 + j) (omega (arith, length-packed w (x / 100)))
+other_bytes : (w x j : ℕ) → j < w → get_or (packed_bytes (suc w) x) (0 + j) 0 ≡ get_or (packed_bytes w (x / 100)) (0 + j) 0
+unfolding packed_bytes
+other_bytes w x j l = get_or-append (packed_bytes w (x / 100)) _ 0 (0 + j) (omega (arith, length_packed w (x / 100)))
 
-pub number-packed : (w x : ℕ) → x < 100 ^ w → packedNumber w (packedBytes w x) 0 ≡ x
-unfolding packedNumber
-number-packed zero x l = omega arith
-number-packed (suc w) x l =
+pub number_packed : (w x : ℕ) → x < 100 ^ w → packed_number w (packed_bytes w x) 0 ≡ x
+unfolding packed_number
+number_packed zero x l = omega arith
+number_packed (suc w) x l =
     let hundreds =
-    packed-cong (packedBytes (suc w) x) (packedBytes w (x / 100)) 0 0 w (other-bytes w x)
-    ∙ number-packed w (x / 100) ((div-lt_iff_lt-mul (lit< tt)).1 (subst (λ (n : ℕ). x < n) (pow-suc 100 w) l)) in
-    let last = ap pairNumber (last_byte w x) ∙ pair_read (x % 100) (mod-lt x (lit< tt)) in
+    packed_cong (packed_bytes (suc w) x) (packed_bytes w (x / 100)) 0 0 w (other_bytes w x)
+    ∙ number_packed w (x / 100) ((div-lt_iff_lt-mul (lit< tt)).1 (subst (λ (n : ℕ). x < n) (pow-suc 100 w) l)) in
+    let last = ap pair_number (last_byte w x) ∙ pair_read (x % 100) (mod-lt x (lit< tt)) in
     omega (arith, hundreds, last)
 
-pub right-packed : (w x : ℕ) → digitsRight w (packedBytes w x) 0 ≡ true
-unfolding digitsRight every
-right-packed zero x = refl
-right-packed (suc w) x =
-    and_both (right-cong (packedBytes (suc w) x) (packedBytes w (x / 100)) 0 0 w (other-bytes w x) ∙ right-packed w (x / 100))
-    (ap pairRight (last_byte w x) ∙ pair-right (x % 100) (mod-lt x (lit< tt)))
+pub right_packed : (w x : ℕ) → digits_right w (packed_bytes w x) 0 ≡ true
+unfolding digits_right every
+right_packed zero x = refl
+right_packed (suc w) x =
+    and_both (right_cong (packed_bytes (suc w) x) (packed_bytes w (x / 100)) 0 0 w (other_bytes w x) ∙ right_packed w (x / 100))
+    (ap pair_right (last_byte w x) ∙ pair_right_lem (x % 100) (mod-lt x (lit< tt)))
 
 -- and bytes with right digits that were read are written as they stood
 module _ (b : List ℕ) (at : ℕ) where
-  pub packed-below : (w : ℕ) → digitsRight w b at ≡ true → packedNumber w b at < 100 ^ w
-  unfolding packedNumber digitsRight every
-  packed-below zero e = lit< tt
-  packed-below (suc w) e =
-      omega (arith, packed-below w (and_left _ _ e), pair-below (get_or b (at + w) 0) (and_right (digitsRight w b at) _ e))
+  pub packed_below : (w : ℕ) → digits_right w b at ≡ true → packed_number w b at < 100 ^ w
+  unfolding packed_number digits_right every
+  packed_below zero e = lit< tt
+  packed_below (suc w) e =
+      omega (arith, packed_below w (and_left _ _ e), pair_below (get_or b (at + w) 0) (and_right (digits_right w b at) _ e))
 
-  pub packed-number : (w : ℕ) → digitsRight w b at ≡ true → at + w ≤ length b → packedBytes w (packedNumber w b at) ≡ part at w b
-  unfolding packedNumber packedBytes digitsRight every
-  packed-number zero e l = refl
-  packed-number (suc w) e l =
-      let last-right = and_right (digitsRight w b at) _ e in
-      let below = pair-below (get_or b (at + w) 0) last-right in
+  pub packed_number_lem : (w : ℕ) → digits_right w b at ≡ true → at + w ≤ length b → packed_bytes w (packed_number w b at) ≡ part at w b
+  unfolding packed_number packed_bytes digits_right every
+  packed_number_lem zero e l = refl
+  packed_number_lem (suc w) e l =
+      let last-right = and_right (digits_right w b at) _ e in
+      let below = pair_below (get_or b (at + w) 0) last-right in
       ap₂ (λ (bs : List ℕ) (x : ℕ). bs ++ x ∷ [])
-      (ap (packedBytes w) (omega (arith, below)) ∙ packed-number w (and_left _ _ e) (omega arith))
-      (ap pairByte (omega (arith, below)) ∙ pair-written (get_or b (at + w) 0) last-right ∙ sym (get_or-drop at b w 0))
+      (ap (packed_bytes w) (omega (arith, below)) ∙ packed_number_lem w (and_left _ _ e) (omega arith))
+      (ap pair_byte (omega (arith, below)) ∙ pair_written (get_or b (at + w) 0) last-right ∙ sym (get_or-drop at b w 0))
       ∙ sym (take-suc (drop at b) w 0 (omega (arith, length-drop at b)))
 
 -- so each number in range has just one packed form
-pub one-packed-form : OnePackedForm
-one-packed-form w x l = ((length-packed w x, right-packed w x, number-packed w x l), only)
+pub one_packed_form : OnePackedForm
+one_packed_form w x l = ((length_packed w x, right_packed w x, number_packed w x l), only)
   where
-    only : (b : List ℕ) → PackedForm w x b → b ≡ packedBytes w x
-    only b (len, right, e) = sym (rw (← e) (packed-number b 0 w right (omega (arith, len)) ∙ take_all w b (le_of_eq len)))
+    only : (b : List ℕ) → PackedForm w x b → b ≡ packed_bytes w x
+    only b (len, right, e) = sym (rw (← e) (packed_number_lem b 0 w right (omega (arith, len)) ∙ take_all w b (le_of_eq len)))
 
 -- one byte more, as a program's loop counts
 module _ (b : List ℕ) (at k : ℕ) where
-  pub packed-next : packedNumber (k + 1) b at ≡ 100 * packedNumber k b at + pairNumber (get_or b (at + k) 0)
-  unfolding packedNumber
-  packed-next = ap (λ (w : ℕ). packedNumber w b at) (add-one k)
+  pub packed_next : packed_number (k + 1) b at ≡ 100 * packed_number k b at + pair_number (get_or b (at + k) 0)
+  unfolding packed_number
+  packed_next = ap (λ (w : ℕ). packed_number w b at) (add-one k)
 
-  pub right-next : digitsRight (k + 1) b at ≡ digitsRight k b at and pairRight (get_or b (at + k) 0)
-  unfolding digitsRight every
-  right-next = ap (λ (w : ℕ). digitsRight w b at) (add-one k)
+  pub right_next : digits_right (k + 1) b at ≡ digits_right k b at and pair_right (get_or b (at + k) 0)
+  unfolding digits_right every
+  right_next = ap (λ (w : ℕ). digits_right w b at) (add-one k)
 
 -- the last byte first, as a program that divides by 100 writes
-set-later : (s : List ℕ) (at : ℕ) (v : List ℕ) (i y : ℕ) → at + length v ≤ i → set (sets s at v) i y ≡ sets (set s i y) at v
-set-later s at [] i y l = refl
-set-later s at (x ∷ v) i y l =
-    set-later (set s at x) (suc at) v i y (omega arith) ∙ ap (λ (r : List ℕ). sets r (suc at) v) (set_comm s at i x y (λ e. omega arith))
+set_later : (s : List ℕ) (at : ℕ) (v : List ℕ) (i y : ℕ) → at + length v ≤ i → set (sets s at v) i y ≡ sets (set s i y) at v
+set_later s at [] i y l = refl
+set_later s at (x ∷ v) i y l =
+    set_later (set s at x) (suc at) v i y (omega arith) ∙ ap (λ (r : List ℕ). sets r (suc at) v) (set_comm s at i x y (λ e. omega arith))
 
-pub last-first : (s : List ℕ) (at w x : ℕ) {y : ℕ} → 0 < w → y ≡ pairByte (x % 100)
-    → sets (set s (at + (w - 1)) y) at (packedBytes (w - 1) (x / 100)) ≡ sets s at (packedBytes w x)
-unfolding packedBytes
-last-first s at zero x l e = absurd (omega arith)
-last-first s at (suc w) x {y} l e =
-    let hundreds = packedBytes w (x / 100) in
+pub last_first : (s : List ℕ) (at w x : ℕ) {y : ℕ} → 0 < w → y ≡ pair_byte (x % 100)
+    → sets (set s (at + (w - 1)) y) at (packed_bytes (w - 1) (x / 100)) ≡ sets s at (packed_bytes w x)
+unfolding packed_bytes
+last_first s at zero x l e = absurd (omega arith)
+last_first s at (suc w) x {y} l e =
+    let hundreds = packed_bytes w (x / 100) in
     let less : suc w - 1 ≡ w = omega arith in
-    sym (rw (less, ← e) (sets-append s at hundreds (y ∷ [])
-    ∙ ap (λ (n : ℕ). set (sets s at hundreds) (at + n) y) (length-packed w (x / 100))
-    ∙ set-later s at hundreds (at + w) y (omega (arith, length-packed w (x / 100)))))
+    sym (rw (less, ← e) (sets_append s at hundreds (y ∷ [])
+    ∙ ap (λ (n : ℕ). set (sets s at hundreds) (at + n) y) (length_packed w (x / 100))
+    ∙ set_later s at hundreds (at + w) y (omega (arith, length_packed w (x / 100)))))

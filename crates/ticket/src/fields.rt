@@ -1,7 +1,7 @@
 // What is wrong with the fields of a ticket, in their order.
 ghost use Rattle.std.specs.Prelude.{◌≡◌};
 ghost use Rattle.rules.specs.Loops.{between};
-ghost use Rattle.ticket.specs.Tickets.{fieldAnswer, fieldsAnswer};
+ghost use Rattle.ticket.specs.Tickets.{field_answer, fields_answer};
 
 use crate::Ticket;
 
@@ -14,7 +14,7 @@ fn between(low: u32, high: u32, x: u32) -> bool
 
 // A packed field: its digits are asked before its value.
 fn field_answer(refusal: u8, low: u32, high: u32, right: bool, x: u32) -> u8
-    ensures { result ≡ fieldAnswer refusal low high right x }
+    ensures { result ≡ field_answer refusal low high right x }
 {
     if !right {
         return 33;
@@ -32,7 +32,7 @@ pub(crate) fn fields_answer(
     pile_right: bool,
     tonnes_right: bool,
 ) -> u8
-    ensures { result ≡ fieldsAnswer number_right pile_right tonnes_right t }
+    ensures { result ≡ fields_answer number_right pile_right tonnes_right t }
 {
     let number = field_answer(33, 0, 99_999_999, number_right, t.number);
     if number != 0 {

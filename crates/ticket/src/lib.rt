@@ -4,7 +4,7 @@ mod packed;
 
 ghost use Rattle.std.specs.Prelude.{◌≡◌, ◌≤◌, length};
 ghost use Rattle.std.proofs.lemmas.List.Edits.{sets};
-ghost use Rattle.ticket.specs.Tickets.{ticketLength, ticketBytes, noTicket, handedBack, reading, writeAnswer, afterWrite};
+ghost use Rattle.ticket.specs.Tickets.{ticket_length, ticket_bytes, no_ticket, handed_back, reading, write_answer, after_write};
 
 use fields::fields_answer;
 use packed::{pack, unpack};
@@ -31,7 +31,7 @@ pub struct Reading {
 
 // A refusal, beside the ticket of all zeros.
 fn refused(answer: u8) -> Reading
-    ensures { result ≡ handedBack answer noTicket }
+    ensures { result ≡ handed_back answer no_ticket }
 {
     Reading {
         answer,
@@ -47,8 +47,8 @@ fn refused(answer: u8) -> Reading
 
 // The ticket's bytes, from the buffer's start on.
 fn put(out: &mut [u8], ticket: Ticket)
-    requires { ticketLength ≤ length out.old }
-    ensures { out.new ≡ sets out.old 0 (ticketBytes ticket) }
+    requires { ticket_length ≤ length out.old }
+    ensures { out.new ≡ sets out.old 0 (ticket_bytes ticket) }
 {
     pack(out, 0, 4, ticket.number);
     pack(out, 4, 3, ticket.pile);
@@ -86,8 +86,8 @@ impl Ticket {
 
     // Writes a ticket from a lent buffer's start on; refused with 33, 34, 13 or 35, and last with 8 where the buffer has no room. Bytes past the ticket stay.
     pub fn write(self, out: &mut [u8]) -> u8
-        ensures answer { result ≡ writeAnswer self out.old }
-        ensures out { out.new ≡ afterWrite self out.old }
+        ensures answer { result ≡ write_answer self out.old }
+        ensures out { out.new ≡ after_write self out.old }
     {
         let refusal = fields_answer(self, true, true, true);
         if refusal != 0 {

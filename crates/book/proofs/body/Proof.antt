@@ -5,14 +5,14 @@ use native.Mathlib.Omega.{arith}
 use mathlib.Core.Path.{◌≡◌, ap, ◌∙◌}
 use mathlib.Core.List.{List}
 use lib.ListN.{length}
-use Rattle.rules.specs.Numbers.{part, partPlace}
-use Rattle.rules.specs.Layout.{Head, headOf, desks, bodyLength}
-use Rattle.rules.specs.Opening.{bodySize}
-use Rattle.rules.proofs.File.BodySize.{size-in-range}
-use Rattle.rules.proofs.File.Readable.{BookFacts, book-facts}
-use Rattle.rules.proofs.File.Positions.{body-within}
-use Rattle.layout.proofs.Positions.{head-there}
-use Rattle.book.proofs.Replies.{HasPlace, has-place, part-refused, start-refused, part-found, start-found}
+use Rattle.rules.specs.Numbers.{part, part_place}
+use Rattle.rules.specs.Layout.{Head, head_of, desks, body_length}
+use Rattle.rules.specs.Opening.{body_size}
+use Rattle.rules.proofs.File.BodySize.{size_in_range}
+use Rattle.rules.proofs.File.Readable.{BookFacts, book_facts}
+use Rattle.rules.proofs.File.Positions.{body_within}
+use Rattle.layout.proofs.Positions.{head_there}
+use Rattle.book.proofs.Replies.{HasPlace, has_place, part_refused, start_refused, part_found, start_found}
 use borrow.Author.Rules.{rules}
 use Rattle.book.proofs.body.Statement.{statement}
 use Rattle.book.proofs.body.Tie as tie
@@ -25,25 +25,25 @@ abbrev k : tie.Else1 → ℕ
 k c = c.before.find.result.place
 
 placed : (c : tie.Else1) → HasPlace (bytes c) (k c)
-placed c = let f = c.before.find.ensures in has-place 0 _ _ f.0 c.if1.false (f.1 c.if1.false)
+placed c = let f = c.before.find.ensures in has_place 0 _ _ f.0 c.if1.false (f.1 c.if1.false)
 
 abbrev facts : (c : tie.Else1) → BookFacts (bytes c)
-facts c = book-facts _ (placed c).readable
+facts c = book_facts _ (placed c).readable
 
 abbrev one : tie.After-body-length → tie.Else1
 one c = c.before.before.before
 
 -- the body that is handed out lies in the book
-sized : (c : tie.After-body-length) → c.body-length.result ≡ bodyLength (desks (bytes (one c)))
+sized : (c : tie.After-body-length) → c.body-length.result ≡ body_length (desks (bytes (one c)))
 sized c =
     let s = (facts (one c)).sizes in
-    c.body-length.ensures ∙ ap (λ (h : Head). bodySize h.desks) (c.before.head_of.ensures ∙ head-there _ (facts (one c)).long)
-    ∙ size-in-range _ s.desks-least s.desks-most
+    c.body-length.ensures ∙ ap (λ (h : Head). body_size h.desks) (c.before.head_of.ensures ∙ head_there _ (facts (one c)).long)
+    ∙ size_in_range _ s.desks_least s.desks_most
 
 within : (c : tie.After-body-length) → c.before.before.position.result + c.body-length.result ≤ length (bytes (one c))
 within c =
     let f = facts (one c) in
-    omega (arith, c.before.before.position.ensures, f.placed (k (one c)) (placed (one c)).below, sized c, f.sized, body-within (headOf (bytes (one c))) (k (one c)) (placed (one c)).below)
+    omega (arith, c.before.before.position.ensures, f.placed (k (one c)) (placed (one c)).below, sized c, f.sized, body_within (head_of (bytes (one c))) (k (one c)) (placed (one c)).below)
 
 find-requires : tie.Need-find-requires
 find-requires c κs = search rules
@@ -61,7 +61,7 @@ returns : tie.Need-returns
 returns c =
     let f = c.before.before.find.ensures in
     let d = c.before.if1.true in
-    (part-refused _ _ f.0 d, ap (partPlace c.before.before.before.before.args.book.ptr) (start-refused _ _ f.0 d))
+    (part_refused _ _ f.0 d, ap (part_place c.before.before.before.before.args.book.ptr) (start_refused _ _ f.0 d))
 
 position-requires : tie.Need-position-requires
 position-requires c κs = search rules
@@ -96,13 +96,13 @@ returns-2 c =
     let size = last.body-length.result in
     let long : from + size - from ≡ size = omega arith in
     let begins = last.before.before.position.ensures in
-    let k-is = f.1 (one last).if1.false in (
-      ap (λ (n : ℕ). part from n book.now) long ∙ part-found _ _ f.0 (one last).if1.false k-is begins (sized last),
-      ap (partPlace book.ptr) (start-found _ _ f.0 (one last).if1.false k-is begins),
+    let k_is = f.1 (one last).if1.false in (
+      ap (λ (n : ℕ). part from n book.now) long ∙ part_found _ _ f.0 (one last).if1.false k_is begins (sized last),
+      ap (part_place book.ptr) (start_found _ _ f.0 (one last).if1.false k_is begins),
     )
 
-pub body-spec : {M : Type 1} → statement M
-body-spec =
+pub body_spec : {M : Type 1} → statement M
+body_spec =
     tie.close
     (tie.spec
     find-requires

@@ -3,22 +3,22 @@
 use Prim.Native.Nat.{◌-◌, ◌≤◌}
 use native.Mathlib.Omega.{arith}
 use mathlib.Core.Path.{ap, sym, ◌∙◌}
-use Rattle.rules.specs.Layout.{Head, deskLimit}
-use Rattle.rules.proofs.File.Readable.{BookFacts, book-facts}
+use Rattle.rules.specs.Layout.{Head, desk_limit}
+use Rattle.rules.proofs.File.Readable.{BookFacts, book_facts}
 use borrow.Author.Rules.{rules}
-use Rattle.layout.proofs.Positions.{head-there}
+use Rattle.layout.proofs.Positions.{head_there}
 use Rattle.lister.proofs.list.Statement.{statement}
 use Rattle.lister.proofs.list.Tie as tie
 
 abbrev invariant-loop : tie.invariant-loop
-invariant-loop book answer n p k₀ k = (n ≤ deskLimit) × (k ≤ p)
+invariant-loop book answer n p k₀ k = (n ≤ desk_limit) × (k ≤ p)
 
 abbrev decreases-loop : tie.decreases-loop
 decreases-loop book answer n p k₀ k = p - k
 
 -- past the test the book is readable
 facts : (c : tie.Else1 invariant-loop decreases-loop) → BookFacts c.before.before.before.args.book.now
-facts c = book-facts _ (sym c.before.check.ensures ∙ c.if1.false)
+facts c = book_facts _ (sym c.before.check.ensures ∙ c.if1.false)
 
 check-requires : tie.Need-check-requires invariant-loop decreases-loop
 check-requires c κs = search rules
@@ -44,8 +44,8 @@ book-line-requires c κs = search rules
 loop-holds : tie.Need-loop-init invariant-loop decreases-loop
 loop-holds c =
     let f = facts c.before.before in
-    let count = ap (λ (h : Head). h.desks) (c.before.head_of.ensures ∙ head-there _ f.long) in
-    (omega (arith, count, f.sizes.desks-most), search rules)
+    let count = ap (λ (h : Head). h.desks) (c.before.head_of.ensures ∙ head_there _ f.long) in
+    (omega (arith, count, f.sizes.desks_most), search rules)
 
 list-pile-requires : tie.Need-list-pile-requires invariant-loop decreases-loop
 list-pile-requires c κs = search rules
@@ -62,8 +62,8 @@ loop-again c = search rules
 returns-2 : tie.Need-returns-2 invariant-loop decreases-loop
 returns-2 c = search rules
 
-pub list-spec : {M : Type 1} → statement M
-list-spec =
+pub list_spec : {M : Type 1} → statement M
+list_spec =
     tie.close
     (tie.spec
     invariant-loop

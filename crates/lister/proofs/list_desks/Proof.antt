@@ -56,8 +56,8 @@ loop-again c = search rules
 returns : tie.Need-returns invariant-loop decreases-loop
 returns c = search rules
 
-pub list-desks-spec : {M : Type 1} → statement M
-list-desks-spec =
+pub list_desks_spec : {M : Type 1} → statement M
+list_desks_spec =
     tie.close
     (tie.spec
     invariant-loop

@@ -37,8 +37,8 @@ returns-2 c =
 returns-3 : tie.Need-returns-3
 returns-3 c = sym (number_past 2 _ _ c.if2.false)
 
-pub get2-spec : {M : Type 1} → statement M
-get2-spec =
+pub get2_spec : {M : Type 1} → statement M
+get2_spec =
     tie.close
     (tie.spec
     short-requires

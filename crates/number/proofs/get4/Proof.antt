@@ -6,7 +6,7 @@ use native.Mathlib.Omega.{arith}
 use borrow.Author.Rules.{rules}
 use borrow.Author.Tests.{ltb-false, not-true}
 use lib.ListN.{length}
-use Rattle.number.proofs.Laws.{number_past, number-halves}
+use Rattle.number.proofs.Laws.{number_past, number_halves}
 use Rattle.number.proofs.get4.Statement.{statement}
 use Rattle.number.proofs.get4.Tie as tie
 
@@ -31,7 +31,7 @@ of-pairs-requires c κs = search rules
 returns : tie.Need-returns
 returns c =
     let args = c.before.before.before.before.before.before.args in
-    omega (arith, number-halves args.s.now args.at)
+    omega (arith, number_halves args.s.now args.at)
 
 get2-requires : tie.Need-get2-requires
 get2-requires c κs = search rules
@@ -48,13 +48,13 @@ of-pairs-requires-2 c κs = search rules
 returns-2 : tie.Need-returns-2
 returns-2 c =
     let args = c.before.before.before.before.before.before.before.args in
-    omega (arith, number-halves args.s.now args.at)
+    omega (arith, number_halves args.s.now args.at)
 
 returns-3 : tie.Need-returns-3
 returns-3 c = sym (number_past 4 _ _ c.if2.false)
 
-pub get4-spec : {M : Type 1} → statement M
-get4-spec =
+pub get4_spec : {M : Type 1} → statement M
+get4_spec =
     tie.close
     (tie.spec
     short-requires

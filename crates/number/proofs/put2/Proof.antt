@@ -3,7 +3,7 @@
 use mathlib.Core.Path.{sym, ◌∙◌}
 use borrow.Author.Rules.{rules}
 use borrow.Author.Tests.{ltb-false}
-use Rattle.number.proofs.Laws.{put_refused, put-done}
+use Rattle.number.proofs.Laws.{put_refused, put_done}
 use Rattle.number.proofs.put2.Statement.{statement}
 use Rattle.number.proofs.put2.Tie as tie
 
@@ -23,7 +23,7 @@ returns-2 : tie.Need-returns-2
 returns-2 c =
     let put = c.before.before in
     let at-if1 = put.before.before in
-    put-done 2 _ _ _ (sym at-if1.before.short.ensures ∙ at-if1.if1.false) put.put-pair.ensures
+    put_done 2 _ _ _ (sym at-if1.before.short.ensures ∙ at-if1.if1.false) put.put-pair.ensures
 
-pub put2-spec : {M : Type 1} → statement M
-put2-spec = tie.close (tie.spec short-requires returns put-pair-requires same_length returns-2)
+pub put2_spec : {M : Type 1} → statement M
+put2_spec = tie.close (tie.spec short-requires returns put-pair-requires same_length returns-2)

@@ -6,7 +6,7 @@ use native.Mathlib.Omega.{arith}
 use borrow.Author.Rules.{rules}
 use borrow.Author.Tests.{ltb-false}
 use lib.ListN.{length}
-use Rattle.number.proofs.Laws.{sets-halves, put_refused, put-done}
+use Rattle.number.proofs.Laws.{sets_halves, put_refused, put_done}
 use Rattle.number.proofs.put4.Statement.{statement}
 use Rattle.number.proofs.put4.Tie as tie
 
@@ -36,11 +36,11 @@ returns-2 c =
     let second = c.before.before in
     let first = second.before.before.before.before in
     let at-if1 = first.before.before in
-    put-done 4 _ _ _ (sym at-if1.before.short.ensures ∙ at-if1.if1.false)
-    (second.put-pair2.ensures ∙ rw first.put-pair.ensures (sets-halves _ _ _))
+    put_done 4 _ _ _ (sym at-if1.before.short.ensures ∙ at-if1.if1.false)
+    (second.put-pair2.ensures ∙ rw first.put-pair.ensures (sets_halves _ _ _))
 
-pub put4-spec : {M : Type 1} → statement M
-put4-spec =
+pub put4_spec : {M : Type 1} → statement M
+put4_spec =
     tie.close
     (tie.spec
     short-requires

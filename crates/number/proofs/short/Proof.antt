@@ -21,5 +21,5 @@ returns-2 c =
     ⊎_elim (λ e. lt-ltb (a.len - a.w) a.at (omega (arith, ltb-true)) ∙ sym e) (λ e. le-ltb (a.len - a.w) a.at (omega (arith, ltb-false)) ∙ sym e)
     (decided (ltb a.len (a.at + a.w)))
 
-pub short-spec : {M : Type 1} → statement M
-short-spec = tie.close (tie.spec returns returns-2)
+pub short_spec : {M : Type 1} → statement M
+short_spec = tie.close (tie.spec returns returns-2)

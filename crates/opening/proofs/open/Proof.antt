@@ -3,14 +3,14 @@
 use native.Mathlib.Omega.{arith}
 use mathlib.Core.Path.{◌≡◌, sym, ◌∙◌}
 use lib.ListN.{length}
-use Rattle.rules.specs.Layout.{headFor}
-use Rattle.rules.specs.Opening.{openingAnswer, afterOpening}
+use Rattle.rules.specs.Layout.{head_for}
+use Rattle.rules.specs.Opening.{opening_answer, after_opening}
 use Rattle.rules.proofs.Loops.Left.{stays, becomes}
-use Rattle.rules.proofs.File.Positions.{front-within}
-use Rattle.rules.proofs.File.Opened.{Accepted, accepted-facts}
+use Rattle.rules.proofs.File.Positions.{front_within}
+use Rattle.rules.proofs.File.Opened.{Accepted, accepted_facts}
 use Rattle.opening.specs.Inner.{Openings}
-use Rattle.opening.proofs.GivenList.{whole-list}
-use Rattle.opening.proofs.Opened.{put-book}
+use Rattle.opening.proofs.GivenList.{whole_list}
+use Rattle.opening.proofs.Opened.{put_book}
 use borrow.Author.Rules.{rules}
 use Rattle.opening.proofs.open.Statement.{statement}
 use Rattle.opening.proofs.open.Tie as tie
@@ -23,27 +23,27 @@ module _ (c : tie.Else1) where
   abbrev entry : tie.Start
   entry = start c.before
 
-  accepted : openingAnswer entry.args.n entry.args.p entry.args.numbers.now (length entry.args.out.now) ≡ 0
+  accepted : opening_answer entry.args.n entry.args.p entry.args.numbers.now (length entry.args.out.now) ≡ 0
   accepted = sym c.before.opening-answer.ensures ∙ c.if1.false
 
   facts : Accepted entry.args.n entry.args.p entry.args.numbers.now (length entry.args.out.now)
-  facts = accepted-facts _ _ _ _ accepted
+  facts = accepted_facts _ _ _ _ accepted
 
   openings : Openings entry.args.n entry.args.p entry.args.numbers.now
-  openings = whole-list facts.frame.sizes facts.sized
+  openings = whole_list facts.frame.sizes facts.sized
 
 opening-answer-requires : tie.Need-opening-answer-requires
 opening-answer-requires c κs = search rules
 
 returns : tie.Need-returns
-unfolding afterOpening
+unfolding after_opening
 returns c = let number = c.before.opening-answer.ensures in (number, stays _ _ number c.if1.true)
 
 put-front-requires : tie.Need-put-front-requires
 put-front-requires c κs =
     let o = c.before in
     let f = facts o in
-    record { openings = openings o; room = omega (arith, f.enough, front-within (headFor (entry o).args.n (entry o).args.p)); rises = f.frame.rises }
+    record { openings = openings o; room = omega (arith, f.enough, front_within (head_for (entry o).args.n (entry o).args.p)); rises = f.frame.rises }
 
 put-bodies-requires : tie.Need-put-bodies-requires
 put-bodies-requires c κs =
@@ -55,12 +55,12 @@ same_length : tie.Need-same-length
 same_length c = search rules
 
 returns-2 : tie.Need-returns-2
-unfolding afterOpening
+unfolding after_opening
 returns-2 c =
     let bodies = c.before.before in
     let front = bodies.before.before.before.before in
     let e = accepted front.before.before in
-    (sym e, becomes _ _ e (put-book _ _ _ _ front.put_front.ensures bodies.put-bodies.ensures))
+    (sym e, becomes _ _ e (put_book _ _ _ _ front.put_front.ensures bodies.put-bodies.ensures))
 
 pub open_spec : {M : Type 1} → statement M
 open_spec =

@@ -6,14 +6,14 @@ use mathlib.Core.Path.{◌≡◌, sym, ◌∙◌}
 use mathlib.Core.List.{List}
 use lib.ListN.{length, get_or}
 use lib.Seq.{length-sets}
-use Rattle.rules.specs.Pile.{pileAnswer}
-use Rattle.rules.specs.Layout.{bodyLength}
-use Rattle.rules.specs.Record.{recordView}
+use Rattle.rules.specs.Pile.{pile_answer}
+use Rattle.rules.specs.Layout.{body_length}
+use Rattle.rules.specs.Record.{record_view}
 use Rattle.rules.proofs.Loops.Logic.{fails, holds}
-use Rattle.rules.proofs.File.BodySize.{size-in-range}
-use Rattle.layout.proofs.Short.{body-most}
-use Rattle.padding.specs.Lists.{recordLength, numbersRecord, packAnswer}
-use Rattle.padding.proofs.Checked.{pack-sized, pack-some, pack-few, shape-refused, body-answer, unlawful-opening, share-left, place-left, as-body}
+use Rattle.rules.proofs.File.BodySize.{size_in_range}
+use Rattle.layout.proofs.Short.{body_most}
+use Rattle.padding.specs.Lists.{record_length, numbers_record, pack_answer}
+use Rattle.padding.proofs.Checked.{pack_sized, pack_some, pack_few, shape_refused, body_answer, unlawful_opening, share_left, place_left, as_body}
 use borrow.Author.Rules.{rules}
 use Rattle.padding.proofs.check_record.Statement.{statement}
 use Rattle.padding.proofs.check_record.Tie as tie
@@ -31,14 +31,14 @@ start c = c.before.before.before.before.before
 abbrev list : tie.Else1 → List ℕ
 list c = (start c).args.numbers.now
 
-packed : (c : tie.Else1) → packAnswer (list c) 0 648 ≡ 0
+packed : (c : tie.Else1) → pack_answer (list c) 0 648 ≡ 0
 packed c = sym c.before.before.pack.ensures.0 ∙ c.if1.false
 
 few : (c : tie.Else1) → get_or (list c) 0 0 ≤ 8
-few c = pack-few (list c) (packed c)
+few c = pack_few (list c) (packed c)
 
-sized : (c : tie.Else1) → length (list c) ≡ recordLength
-sized c = pack-sized (list c) (packed c)
+sized : (c : tie.Else1) → length (list c) ≡ record_length
+sized c = pack_sized (list c) (packed c)
 
 small : (c : tie.Else1) (k : ℕ) → get_or (list c) k 0 < 4294967296
 small c k = omega (arith, c.before.before.before.before.shared-slice-known.given k)
@@ -47,18 +47,18 @@ small c k = omega (arith, c.before.before.before.before.shared-slice-known.given
 abbrev read : tie.After-check-bodies → tie.Else1
 read c = c.before.before.before.before.before
 
-size : (c : tie.After-body-length) → c.body-length.result ≡ bodyLength (get_or (list c.before.before) 0 0)
-size c = let e = c.before.before in c.body-length.ensures ∙ size-in-range _ (pack-some (list e) (packed e)) (few e)
+size : (c : tie.After-body-length) → c.body-length.result ≡ body_length (get_or (list c.before.before) 0 0)
+size c = let e = c.before.before in c.body-length.ensures ∙ size_in_range _ (pack_some (list e) (packed e)) (few e)
 
-judged : (c : tie.After-check-bodies) → c.check-bodies.result ≡ pileAnswer (get_or (list (read c)) 0 0) (recordView (numbersRecord (list (read c))))
+judged : (c : tie.After-check-bodies) → c.check-bodies.result ≡ pile_answer (get_or (list (read c)) 0 0) (record_view (numbers_record (list (read c))))
 judged c =
     let e = read c in
     let sized-at = c.before.before.before in
-    let all : sized-at.body-length.result - 0 ≡ bodyLength (get_or (list e) 0 0) = omega (arith, size sized-at) in
-    body-answer (list e) (small e) (sized e) (pack-some (list e) (packed e)) (few e) e.before.before.pack.ensures.1 (packed e) all c.check-bodies.ensures
+    let all : sized-at.body-length.result - 0 ≡ body_length (get_or (list e) 0 0) = omega (arith, size sized-at) in
+    body_answer (list e) (small e) (sized e) (pack_some (list e) (packed e)) (few e) e.before.before.pack.ensures.1 (packed e) all c.check-bodies.ensures
 
 returns : tie.Need-returns
-returns c = shape-refused _ c.before.before.pack.ensures.0 c.if1.true
+returns c = shape_refused _ c.before.before.pack.ensures.0 c.if1.true
 
 shared-slice-read-n : tie.Need-shared-slice-read-n
 shared-slice-read-n c = search (rules, sized c.before)
@@ -76,7 +76,7 @@ part-check-bodies-start : tie.Need-slice-bounds-check-bodies-start
 part-check-bodies-start c = search rules
 
 part-check-bodies-end : tie.Need-slice-bounds-check-bodies-end
-part-check-bodies-end c = let e = c.before.before.before in search (rules, size c.before, body-most _ (few e), length-sets)
+part-check-bodies-end c = let e = c.before.before.before in search (rules, size c.before, body_most _ (few e), length-sets)
 
 check-bodies-requires : tie.Need-check-bodies-requires
 check-bodies-requires c κs = search rules
@@ -84,7 +84,7 @@ check-bodies-requires c κs = search rules
 returns-2 : tie.Need-returns-2
 returns-2 c =
     let e = read c.before in
-    unlawful-opening (list e) (small e) (sized e) (pack-some (list e) (packed e)) (few e) (judged c.before) c.if2.true
+    unlawful_opening (list e) (small e) (sized e) (pack_some (list e) (packed e)) (few e) (judged c.before) c.if2.true
 
 cast-desks : tie.Need-overflow-cast-desks
 cast-desks c = omega (arith, few (read c.before))
@@ -97,7 +97,7 @@ returns-3 c =
     let zero = c.before in
     let other = zero.before in
     let e = read other.before in
-    share-left (list e) (small e) (sized e) (pack-some (list e) (packed e)) (few e) (judged other.before) other.if2.false
+    share_left (list e) (small e) (sized e) (pack_some (list e) (packed e)) (few e) (judged other.before) other.if2.false
     (fails zero.opening-padding-zero.ensures c.if3.true)
 
 rows-padding-zero-requires : tie.Need-rows-padding-zero-requires
@@ -109,7 +109,7 @@ returns-4 c =
     let none = zero.before in
     let other = none.before.before in
     let e = read other.before in
-    place-left (list e) (small e) (sized e) (pack-some (list e) (packed e)) (few e) (judged other.before) other.if2.false
+    place_left (list e) (small e) (sized e) (pack_some (list e) (packed e)) (few e) (judged other.before) other.if2.false
     (holds none.before.opening-padding-zero.ensures none.if3.false) (fails zero.rows-padding-zero.ensures c.if4.true)
 
 returns-5 : tie.Need-returns-5
@@ -118,11 +118,11 @@ returns-5 c =
     let none = zero.before in
     let other = none.before.before in
     let e = read other.before in
-    as-body (list e) (small e) (sized e) (pack-some (list e) (packed e)) (few e) (judged other.before) other.if2.false
+    as_body (list e) (small e) (sized e) (pack_some (list e) (packed e)) (few e) (judged other.before) other.if2.false
     (holds none.before.opening-padding-zero.ensures none.if3.false) (holds zero.rows-padding-zero.ensures c.if4.false)
 
-pub check-record-spec : {M : Type 1} → statement M
-check-record-spec =
+pub check_record_spec : {M : Type 1} → statement M
+check_record_spec =
     tie.close
     (tie.spec
     slice-aggregate-pack

@@ -5,10 +5,10 @@ use native.Mathlib.Omega.{arith}
 use mathlib.Core.Path.{◌≡◌, refl, ◌∙◌}
 use mathlib.Core.List.{List}
 use lib.ListN.{length, get_or}
-use Rattle.rules.specs.Layout.{bodyLength}
-use Rattle.rules.proofs.File.BodySize.{size-in-range}
-use Rattle.padding.specs.Lists.{recordLength}
-use Rattle.padding.proofs.PackLines.{pack-3, pack-none, pack-many, pack-8, packed}
+use Rattle.rules.specs.Layout.{body_length}
+use Rattle.rules.proofs.File.BodySize.{size_in_range}
+use Rattle.padding.specs.Lists.{record_length}
+use Rattle.padding.proofs.PackLines.{pack_3, pack_none, pack_many, pack_8, packed}
 use borrow.Author.Rules.{rules}
 use Rattle.padding.proofs.pack.Statement.{statement}
 use Rattle.padding.proofs.pack.Tie as tie
@@ -18,7 +18,7 @@ module _ (c : tie.Else3) where
   abbrev list : List ℕ
   list = c.before.before.before.before.before.before.before.args.numbers.now
 
-  sized : length list ≡ recordLength
+  sized : length list ≡ record_length
   sized = c.before.before.before.before.if1.false
 
   some : 1 ≤ get_or list 0 0
@@ -28,17 +28,17 @@ module _ (c : tie.Else3) where
   few = c.if3.false
 
 -- the length that was asked for
-size : (c : tie.After-body-length) → c.body-length.result ≡ bodyLength (get_or (list c.before.before.before) 0 0)
-size c = let three = c.before.before.before in c.body-length.ensures ∙ size-in-range _ (some three) (few three)
+size : (c : tie.After-body-length) → c.body-length.result ≡ body_length (get_or (list c.before.before.before) 0 0)
+size c = let three = c.before.before.before in c.body-length.ensures ∙ size_in_range _ (some three) (few three)
 
 returns : tie.Need-returns
-returns c = pack-3 _ _ _ c.if1.true
+returns c = pack_3 _ _ _ c.if1.true
 
 shared-slice-read-if2 : tie.Need-shared-slice-read-if2
 shared-slice-read-if2 c = search rules
 
 returns-2 : tie.Need-returns-2
-returns-2 c = pack-none _ _ _ c.before.before.if1.false c.if2.true
+returns-2 c = pack_none _ _ _ c.before.before.if1.false c.if2.true
 
 shared-slice-read-if3 : tie.Need-shared-slice-read-if3
 shared-slice-read-if3 c = search rules
@@ -47,7 +47,7 @@ cast-if3 : tie.Need-overflow-cast-if3
 cast-if3 c = search (rules, c.shared-slice-known3.given 0)
 
 returns-3 : tie.Need-returns-3
-returns-3 c = pack-many _ _ _ c.before.before.before.before.if1.false c.before.before.if2.false c.if3.true
+returns-3 c = pack_many _ _ _ c.before.before.before.before.if1.false c.before.before.if2.false c.if3.true
 
 shared-slice-read-n : tie.Need-shared-slice-read-n
 shared-slice-read-n c = search rules
@@ -56,7 +56,7 @@ cast-n : tie.Need-overflow-cast-n
 cast-n c = omega (arith, few c.before)
 
 returns-4 : tie.Need-returns-4
-returns-4 c = let n = c.before.before in pack-8 _ _ _ (sized n) (some n) (few n) (omega (arith, c.if4.true))
+returns-4 c = let n = c.before.before in pack_8 _ _ _ (sized n) (some n) (few n) (omega (arith, c.if4.true))
 
 sub-if5 : tie.Need-overflow-sub-if5
 sub-if5 c = search rules
@@ -67,14 +67,14 @@ body-length-requires c κs = search rules
 returns-5 : tie.Need-returns-5
 returns-5 c =
     let n = c.before.before.before.before in
-    pack-8 _ _ _ (sized n) (some n) (few n) (omega (arith, size c.before, c.if5.true, c.before.before.if4.false))
+    pack_8 _ _ _ (sized n) (some n) (few n) (omega (arith, size c.before, c.if5.true, c.before.before.if4.false))
 
 pack-rows-requires : tie.Need-pack-rows-requires
 pack-rows-requires c κs =
     let room = c.before in
     let n = room.before.before.before.before in
     record {
-      desks-most = few n;
+      desks_most = few n;
       within = omega (arith, size room.before, room.if5.false, room.before.before.if4.false);
       all_there = sized n;
     }
@@ -89,8 +89,8 @@ returns-6 c =
     let n = room.before.before.before.before in
     packed _ _ _ (sized n) (some n) (few n) (omega (arith, size room.before, room.if5.false, room.before.before.if4.false)) refl put.pack-rows.ensures
 
-pub pack-spec : {M : Type 1} → statement M
-pack-spec =
+pub pack_spec : {M : Type 1} → statement M
+pack_spec =
     tie.close
     (tie.spec
     returns

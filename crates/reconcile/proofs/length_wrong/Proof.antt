@@ -4,8 +4,8 @@ use mathlib.Core.Path.{ap, sym, ◌∙◌}
 use mathlib.Core.Bool.{not}
 use borrow.Author.Rules.{rules}
 use borrow.Author.Tests.{eq-eqb, ne_eqb}
-use Rattle.rules.proofs.Loops.Logic.{or-first, or-left-fails}
-use Rattle.reconcile.specs.Lists.{lengthWrong}
+use Rattle.rules.proofs.Loops.Logic.{or_first, or_left_fails}
+use Rattle.reconcile.specs.Lists.{length_wrong}
 use Rattle.reconcile.proofs.length_wrong.Statement.{statement}
 use Rattle.reconcile.proofs.length_wrong.Tie as tie
 
@@ -13,12 +13,12 @@ mul-result : tie.Need-overflow-mul-result
 mul-result c = search rules
 
 returns : tie.Need-returns
-unfolding lengthWrong
-returns c = let part_left = ap not (ne_eqb _ 0 c.if1.true) in part_left ∙ sym (or-first part_left _)
+unfolding length_wrong
+returns c = let part_left = ap not (ne_eqb _ 0 c.if1.true) in part_left ∙ sym (or_first part_left _)
 
 returns-2 : tie.Need-returns-2
-unfolding lengthWrong
-returns-2 c = or-left-fails (ap not (eq-eqb _ 0 c.if1.false)) _
+unfolding length_wrong
+returns-2 c = or_left_fails (ap not (eq-eqb _ 0 c.if1.false)) _
 
-pub length-wrong-spec : {M : Type 1} → statement M
-length-wrong-spec = tie.close (tie.spec mul-result returns returns-2)
+pub length_wrong_spec : {M : Type 1} → statement M
+length_wrong_spec = tie.close (tie.spec mul-result returns returns-2)

@@ -9,10 +9,10 @@ use mathlib.Core.Logic.{⊎_elim}
 use lib.ListN.{length}
 use borrow.Author.Rules.{rules}
 use borrow.Author.Tests.{ltb-true, ltb-false}
-use Rattle.rules.proofs.Loops.Logic.{or-first, or-second}
-use Rattle.reconcile.specs.Lists.{lengthWrong, reconcileAnswer}
+use Rattle.rules.proofs.Loops.Logic.{or_first, or_second}
+use Rattle.reconcile.specs.Lists.{length_wrong, reconcile_answer}
 use Rattle.reconcile.specs.Inner.{Walked}
-use Rattle.reconcile.proofs.Reconciled.{sized, begun, judged, counts-right, handed-refused, handed-done, length-refused}
+use Rattle.reconcile.proofs.Reconciled.{sized, begun, judged, counts_right, handed_refused, handed_done, length_refused}
 use Rattle.reconcile.proofs.reconcile.Statement.{statement}
 use Rattle.reconcile.proofs.reconcile.Tie as tie
 
@@ -31,7 +31,7 @@ refused-requires c κs = search rules
 returns : tie.Need-returns invariant-loop decreases-loop
 returns c =
     let wrong = sym c.before.before.length-wrong.ensures ∙ c.before.if1.true in
-    c.refused.ensures ∙ handed-refused _ _ (length-refused _ _ (or-first wrong _)) (suc-ne-zero 2)
+    c.refused.ensures ∙ handed_refused _ _ (length_refused _ _ (or_first wrong _)) (suc-ne-zero 2)
 
 length-wrong-requires-2 : tie.Need-length-wrong-requires-2 invariant-loop decreases-loop
 length-wrong-requires-2 c κs = search rules
@@ -42,37 +42,37 @@ refused-requires-2 c κs = search rules
 returns-2 : tie.Need-returns-2 invariant-loop decreases-loop
 returns-2 c =
     let wrong = sym c.before.before.length-wrong2.ensures ∙ c.before.if2.true in
-    c.refused2.ensures ∙ handed-refused _ _ (length-refused _ _ (or-second _ wrong)) (suc-ne-zero 2)
+    c.refused2.ensures ∙ handed_refused _ _ (length_refused _ _ (or_second _ wrong)) (suc-ne-zero 2)
 
 -- both lengths are right
-bridge-length : (c : tie.Else2 invariant-loop decreases-loop) → lengthWrong c.before.before.before.before.before.before.args.bridge.now ≡ false
-bridge-length c = sym c.before.before.before.length-wrong.ensures ∙ c.before.before.if1.false
+bridge_length : (c : tie.Else2 invariant-loop decreases-loop) → length_wrong c.before.before.before.before.before.before.args.bridge.now ≡ false
+bridge_length c = sym c.before.before.before.length-wrong.ensures ∙ c.before.before.if1.false
 
-desk-length : (c : tie.Else2 invariant-loop decreases-loop) → lengthWrong c.before.before.before.before.before.before.args.desk.now ≡ false
-desk-length c = sym c.before.length-wrong2.ensures ∙ c.if2.false
+desk_length : (c : tie.Else2 invariant-loop decreases-loop) → length_wrong c.before.before.before.before.before.before.args.desk.now ≡ false
+desk_length c = sym c.before.length-wrong2.ensures ∙ c.if2.false
 
 start-requires : tie.Need-start-requires invariant-loop decreases-loop
-start-requires c κs = (sized _ (bridge-length c)).0
+start-requires c κs = (sized _ (bridge_length c)).0
 
 start-requires-2 : tie.Need-start-requires-2 invariant-loop decreases-loop
-start-requires-2 c κs = (sized _ (desk-length c.before)).0
+start-requires-2 c κs = (sized _ (desk_length c.before)).0
 
 loop-holds : tie.Need-loop-init invariant-loop decreases-loop
-loop-holds c = begun (bridge-length c.before.before) (desk-length c.before.before) c.before.start.ensures c.start2.ensures
+loop-holds c = begun (bridge_length c.before.before) (desk_length c.before.before) c.before.start.ensures c.start2.ensures
 
 step-requires : tie.Need-step-requires invariant-loop decreases-loop
 step-requires c κs =
     let loop = c.before.before.loop in
     let desk = c.before.before.before.before.before.before.before.before.before.before.before.args.desk.now in
-    let bridge-within = loop.invariant.of-bridge.standing.within in
-    let desk-within = loop.invariant.of-desk.standing.within in (
+    let bridge-within = loop.invariant.of_bridge.standing.within in
+    let desk-within = loop.invariant.of_desk.standing.within in (
       loop.invariant,
       ⊎_elim (λ w. omega (arith, w.taken, bridge-within, desk-within))
           (λ w. omega (arith, ltb-true loop.walk.desk.at (length desk) w.2.taken, bridge-within, desk-within)) c.if3.branch,
     )
 
 loop-less : tie.Need-loop-smaller invariant-loop decreases-loop
-loop-less c = omega (arith, c.step.ensures.1, c.step.ensures.0.of-bridge.standing.within, c.step.ensures.0.of-desk.standing.within)
+loop-less c = omega (arith, c.step.ensures.1, c.step.ensures.0.of_bridge.standing.within, c.step.ensures.0.of_desk.standing.within)
 
 loop-again : tie.Need-loop-preserved invariant-loop decreases-loop
 loop-again c = c.step.ensures.0
@@ -84,28 +84,28 @@ refused-requires-3 : tie.Need-refused-requires-3 invariant-loop decreases-loop
 refused-requires-3 c κs = search rules
 
 -- past the last ticket of both lists the cursors' answer is that of the lists
-abbrev loop-left : tie.After-judge invariant-loop decreases-loop → tie.At-loop invariant-loop decreases-loop
-loop-left c = c.before.before.before.before.before
+abbrev loop_left : tie.After-judge invariant-loop decreases-loop → tie.At-loop invariant-loop decreases-loop
+loop_left c = c.before.before.before.before.before
 
-judge-is : (c : tie.After-judge invariant-loop decreases-loop) → let args = (loop-left c).before.before.before.before.before.before.before.before.before.args in
-    c.judge.result ≡ reconcileAnswer args.bridge.now args.desk.now
-judge-is c =
-    let right = (loop-left c).before.before.before in
-    c.judge.ensures ∙ judged (loop-left c).loop.invariant c.before.before.before.if3.false (ltb-false _ _ c.before.if4.false) (bridge-length right) (desk-length right)
+judge_is : (c : tie.After-judge invariant-loop decreases-loop) → let args = (loop_left c).before.before.before.before.before.before.before.before.before.args in
+    c.judge.result ≡ reconcile_answer args.bridge.now args.desk.now
+judge_is c =
+    let right = (loop_left c).before.before.before in
+    c.judge.ensures ∙ judged (loop_left c).loop.invariant c.before.before.before.if3.false (ltb-false _ _ c.before.if4.false) (bridge_length right) (desk_length right)
 
 returns-3 : tie.Need-returns-3 invariant-loop decreases-loop
-returns-3 c = c.refused3.ensures ∙ handed-refused _ _ (judge-is c.before.before) (λ e. omega (arith, c.before.if5.true, e))
+returns-3 c = c.refused3.ensures ∙ handed_refused _ _ (judge_is c.before.before) (λ e. omega (arith, c.before.if5.true, e))
 
 returns-4 : tie.Need-returns-4 invariant-loop decreases-loop
 returns-4 c =
     let judge = c.before in
-    let is = judge-is judge in
+    let is = judge_is judge in
     let accepted : judge.judge.result ≡ 0 = omega (arith, c.if5.false) in
-    counts-right (loop-left judge).loop.invariant judge.before.before.before.if3.false (ltb-false _ _ judge.before.if4.false) (sym is ∙ accepted)
-    ∙ handed-done _ _ is accepted
+    counts_right (loop_left judge).loop.invariant judge.before.before.before.if3.false (ltb-false _ _ judge.before.if4.false) (sym is ∙ accepted)
+    ∙ handed_done _ _ is accepted
 
-pub reconcile-spec : {M : Type 1} → statement M
-reconcile-spec =
+pub reconcile_spec : {M : Type 1} → statement M
+reconcile_spec =
     tie.close
     (tie.spec
     invariant-loop

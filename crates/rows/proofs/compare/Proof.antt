@@ -6,17 +6,17 @@ use mathlib.Core.Path.{◌≡◌, refl, ap₂, sym, ◌∙◌}
 use mathlib.Core.Logic.{⊎_elim}
 use borrow.Author.Rules.{rules}
 use Rattle.rules.specs.Loops.{every}
-use Rattle.rules.specs.Rows.{at_least, numbersOf, places, compared}
+use Rattle.rules.specs.Rows.{at_least, numbers_of, places, compared}
 use Rattle.rules.proofs.Loops.Logic.{holds, fails}
 use Rattle.rules.proofs.Bytes.Numbers.{number_read}
-use Rattle.rules.proofs.Take.RowOrder.{order_by, at-least-fails, at-least-stays}
+use Rattle.rules.proofs.Take.RowOrder.{order_by, at_least_fails, at_least_stays}
 use Rattle.rules.proofs.Take.Compared.{no_row, lengths_differ, by_tests}
 use Rattle.rows.proofs.compare.Statement.{statement}
 use Rattle.rows.proofs.compare.Tie as tie
 
 abbrev invariant-loop : tie.invariant-loop
 invariant-loop mine copy places mine-above₀ copy-above₀ c₀ mine-above copy-above c =
-    (c ≤ places) × (mine-above ≡ at_least c (numbersOf mine) (numbersOf copy)) × (copy-above ≡ at_least c (numbersOf copy) (numbersOf mine))
+    (c ≤ places) × (mine-above ≡ at_least c (numbers_of mine) (numbers_of copy)) × (copy-above ≡ at_least c (numbers_of copy) (numbers_of mine))
 
 abbrev decreases-loop : tie.decreases-loop
 decreases-loop mine copy places mine-above₀ copy-above₀ c₀ mine-above copy-above c = places - c
@@ -86,10 +86,10 @@ loop-again c =
     let x-is = number_read 4 rows.mine.now (loop.c * 4) x.get4.ensures in
     let y-is = number_read 4 rows.copy.now (loop.c * 4) y.get42.ensures in (
       search rules,
-      ⊎_elim (λ w. w.1 ∙ sym (at-least-fails _ _ _ x-is y-is w.0.taken))
-          (λ w. w.1 ∙ loop.invariant.1 ∙ sym (at-least-stays _ _ _ x-is y-is w.0.left)) c.before.if3.branch,
-      ⊎_elim (λ w. w.1 ∙ sym (at-least-fails _ _ _ y-is x-is w.0.taken))
-          (λ w. w.1 ∙ loop.invariant.2 ∙ sym (at-least-stays _ _ _ y-is x-is w.0.left)) c.if4.branch,
+      ⊎_elim (λ w. w.1 ∙ sym (at_least_fails _ _ _ x-is y-is w.0.taken))
+          (λ w. w.1 ∙ loop.invariant.1 ∙ sym (at_least_stays _ _ _ x-is y-is w.0.left)) c.before.if3.branch,
+      ⊎_elim (λ w. w.1 ∙ sym (at_least_fails _ _ _ y-is x-is w.0.taken))
+          (λ w. w.1 ∙ loop.invariant.2 ∙ sym (at_least_stays _ _ _ y-is x-is w.0.left)) c.if4.branch,
     )
 
 -- past the last place the two tests say which order it is
@@ -114,8 +114,8 @@ returns-5 c = sym (told c.before.before ∙ ap₂ order_by c.before.if5.false c.
 returns-6 : tie.Need-returns-6 invariant-loop decreases-loop
 returns-6 c = sym (told c.before.before ∙ ap₂ order_by c.before.if5.false c.if7.false)
 
-pub compare-spec : {M : Type 1} → statement M
-compare-spec =
+pub compare_spec : {M : Type 1} → statement M
+compare_spec =
     tie.close
     (tie.spec
     invariant-loop

@@ -6,24 +6,24 @@ use mathlib.Core.Path.{◌≡◌, refl, ap, ◌∙◌}
 use mathlib.Core.Bool.{cond}
 use mathlib.Core.List.{List}
 use borrow.Author.Rules.{rules}
-use Rattle.rules.specs.Numbers.{partPlace}
-use Rattle.rules.specs.Rows.{isCopyLater, compared, handedOn, laterRow}
+use Rattle.rules.specs.Numbers.{part_place}
+use Rattle.rules.specs.Rows.{is_copy_later, compared, handed_on, later_row}
 use Rattle.rows.specs.declared.Comparison.{Comparison}
-use Rattle.rows.specs.Comparisons.{asComparison}
+use Rattle.rows.specs.Comparisons.{as_comparison}
 use Rattle.rows.proofs.later_row.Statement.{statement}
 use Rattle.rows.proofs.later_row.Tie as tie
 
 -- a part of two rows at the places p and q, and where it starts
 abbrev Handed : {P : Type 0} (mine copy : List ℕ) (p q : P) → List ℕ → P → Type 0
-Handed mine copy p q row place = (row ≡ laterRow mine copy) × (place ≡ cond (isCopyLater (compared mine copy)) q p)
+Handed mine copy p q row place = (row ≡ later_row mine copy) × (place ≡ cond (is_copy_later (compared mine copy)) q p)
 
 told : (c : tie.After-compare) {o : Comparison} → c.compare.result ≡ o → let rows = c.before.before.before.args in
     Handed rows.mine.now rows.copy.now rows.mine.ref_ptr rows.copy.ref_ptr
-    (handedOn (asComparison o) rows.mine.now rows.copy.now) (cond (isCopyLater (asComparison o)) rows.copy.ref_ptr rows.mine.ref_ptr)
+    (handed_on (as_comparison o) rows.mine.now rows.copy.now) (cond (is_copy_later (as_comparison o)) rows.copy.ref_ptr rows.mine.ref_ptr)
 told c e = rw (← e, c.compare.ensures) (refl, refl)
 
 -- the empty part starts 0 bytes past the first row's start
-empty : {B : Type 0} {p place : ℕ × ℕ} → B × (p ≡ place) → B × (partPlace p 0 ≡ place)
+empty : {B : Type 0} {p place : ℕ × ℕ} → B × (p ≡ place) → B × (part_place p 0 ≡ place)
 empty {p = p} h = (h.0, ap (λ (n : ℕ). (p.0, n)) (zero-add p.1) ∙ h.1)
 
 compare-requires : tie.Need-compare-requires
@@ -77,8 +77,8 @@ returns-4 c = empty (told c.before.before.before c.before.enum-told4.given.1)
 returns-5 : tie.Need-returns-5
 returns-5 c = empty (told c.before.before.before c.before.enum-told5.given.1)
 
-pub later-row-spec : {M : Type 1} → statement M
-later-row-spec =
+pub later_row_spec : {M : Type 1} → statement M
+later_row_spec =
     tie.close
     (tie.spec
     compare-requires

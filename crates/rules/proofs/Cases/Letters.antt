@@ -5,11 +5,11 @@ use mathlib.Core.Path.{refl}
 use mathlib.Core.List.{List, [], ◌∷◌, ◌++◌}
 use Rattle.rules.specs.Pile.{draw, tip}
 use Rattle.rules.specs.Acts.{Kind, spend, give}
-use Rattle.rules.specs.Opening.{openingAnswer, opened}
-use Rattle.rules.specs.Book.{tonnageReply, rightsReply, actAnswer}
-use Rattle.rules.specs.Bounds.{boundReply}
-use Rattle.rules.specs.Take.{takeAnswer}
-use Rattle.rules.proofs.Cases.Table.{Case, case, AllHold, all_hold, shown, takes, actOn, enter, open-loops, open-refusals, open-numbers, open-pile, open-acts, open-layout, open-rows, open-opening, open-book, open-take, open-bounds}
+use Rattle.rules.specs.Opening.{opening_answer, opened}
+use Rattle.rules.specs.Book.{tonnage_reply, rights_reply, act_answer}
+use Rattle.rules.specs.Bounds.{bound_reply}
+use Rattle.rules.specs.Take.{take_answer}
+use Rattle.rules.proofs.Cases.Table.{Case, case, AllHold, all_hold, shown, takes, act_on, enter, open_loops, open_refusals, open_numbers, open_pile, open_acts, open_layout, open_rows, open_opening, open_book, open_take, open_bounds}
 
 -- the worked book F: 3 desks, pile 7, floor 10, top 110, draw shares 0, 0, 0, tip shares 40, 30, 30
 abbrev pub F : List ℕ
@@ -33,13 +33,13 @@ G =
 
 abbrev answers : ℕ → Kind → List ℕ → List ℕ → List ℕ
 answers i kind [] b = []
-answers i kind (t ∷ ts) b = actAnswer i (actOn 7 kind t) b ∷ answers i kind ts b
+answers i kind (t ∷ ts) b = act_answer i (act_on 7 kind t) b ∷ answers i kind ts b
 
 abbrev pub table : List Case
 table =
     -- the worked book: the opening writes F, and its acts leave G, whose value is 30 by Figure 1's formula
     case "F is what its opening writes"
-    (openingAnswer 3 1 (7 ∷ 10 ∷ 110 ∷ 0 ∷ 0 ∷ 0 ∷ 40 ∷ 30 ∷ 30 ∷ []) 138 ∷ opened 3 1 (7 ∷ 10 ∷ 110 ∷ 0 ∷ 0 ∷ 0 ∷ 40 ∷ 30 ∷ 30 ∷ []))
+    (opening_answer 3 1 (7 ∷ 10 ∷ 110 ∷ 0 ∷ 0 ∷ 0 ∷ 40 ∷ 30 ∷ 30 ∷ []) 138 ∷ opened 3 1 (7 ∷ 10 ∷ 110 ∷ 0 ∷ 0 ∷ 0 ∷ 40 ∷ 30 ∷ 30 ∷ []))
     (0 ∷ F)
     ∷ case "G is F after: desk 0 tips 30, desk 1 tips 1, desk 0 gives draw 10 to desks 1 and 2, desks 0, 1 and 2 draw 5, 4 and 2"
     (enter 2 7 (spend draw) 2
@@ -47,24 +47,24 @@ table =
     (enter 0 7 (spend draw) 5
     (enter 0 7 (give draw 2) 10 (enter 0 7 (give draw 1) 10 (enter 1 7 (spend tip) 1 (enter 0 7 (spend tip) 30 F)))))))
     G
-    ∷ case "G known 30" (shown (tonnageReply G 7)) (0 ∷ 30 ∷ [])
+    ∷ case "G known 30" (shown (tonnage_reply G 7)) (0 ∷ 30 ∷ [])
     ∷ case "G: of desks 0, 1 and 2 least 15, 17 and 18, most 95, 77 and 78"
-    (shown (boundReply draw 0 G 7)
-    ++ shown (boundReply draw 1 G 7)
-    ++ shown (boundReply draw 2 G 7)
-    ++ shown (boundReply tip 0 G 7)
-    ++ shown (boundReply tip 1 G 7)
-    ++ shown (boundReply tip 2 G 7))
+    (shown (bound_reply draw 0 G 7)
+    ++ shown (bound_reply draw 1 G 7)
+    ++ shown (bound_reply draw 2 G 7)
+    ++ shown (bound_reply tip 0 G 7)
+    ++ shown (bound_reply tip 1 G 7)
+    ++ shown (bound_reply tip 2 G 7))
     (0 ∷ 15 ∷ 0 ∷ 17 ∷ 0 ∷ 18 ∷ 0 ∷ 95 ∷ 0 ∷ 77 ∷ 0 ∷ 78 ∷ [])
-    ∷ case "a: F known 10" (shown (tonnageReply F 7)) (0 ∷ 10 ∷ [])
+    ∷ case "a: F known 10" (shown (tonnage_reply F 7)) (0 ∷ 10 ∷ [])
     ∷ case "b: F, desk 0 draws 1: 14" (answers 0 (spend draw) (1 ∷ []) F) (14 ∷ [])
     ∷ case "c: F, desk 0 tips 40: known 50, tip rights 0"
-    (shown (tonnageReply (enter 0 7 (spend tip) 40 F) 7) ++ shown (rightsReply tip 0 (enter 0 7 (spend tip) 40 F) 7))
+    (shown (tonnage_reply (enter 0 7 (spend tip) 40 F) 7) ++ shown (rights_reply tip 0 (enter 0 7 (spend tip) 40 F) 7))
     (0 ∷ 50 ∷ 0 ∷ 0 ∷ [])
     ∷ case "d: F, desk 0 tips 41: 14" (answers 0 (spend tip) (41 ∷ []) F) (14 ∷ [])
     ∷ case "e: G, desk 0 gives draw 5 to desk 1: draw rights 0 and 12; giving 6: 14"
-    (shown (rightsReply draw 0 (enter 0 7 (give draw 1) 5 G) 7)
-    ++ shown (rightsReply draw 1 (enter 0 7 (give draw 1) 5 G) 7)
+    (shown (rights_reply draw 0 (enter 0 7 (give draw 1) 5 G) 7)
+    ++ shown (rights_reply draw 1 (enter 0 7 (give draw 1) 5 G) 7)
     ++ answers 0 (give draw 1) (6 ∷ []) G)
     (0 ∷ 0 ∷ 0 ∷ 12 ∷ 14 ∷ [])
     ∷ case "f: G, desk 0 gives to itself: 12" (answers 0 (give draw 0) (1 ∷ []) G ++ answers 0 (give tip 0) (1 ∷ []) G) (12 ∷ 12 ∷ [])
@@ -81,10 +81,10 @@ table =
     (0 ∷ 2 ∷ G)
     ∷ case "i: desk 2 takes G into F: 32, reports 0" (takes 2 F G) (32 ∷ 0 ∷ F)
     ∷ case "j: desk 1 takes 'F, desk 0 tips 30' into 'F, desk 0 tips 10, gives tip 5 to desk 1': 31"
-    (takeAnswer 1 (enter 0 7 (give tip 1) 5 (enter 0 7 (spend tip) 10 F)) (enter 0 7 (spend tip) 30 F) ∷ [])
+    (take_answer 1 (enter 0 7 (give tip 1) 5 (enter 0 7 (spend tip) 10 F)) (enter 0 7 (spend tip) 30 F) ∷ [])
     (31 ∷ [])
     ∷ []
 
-pub cases-hold : AllHold table
-unfolding open-loops open-refusals open-numbers open-pile open-acts open-layout open-rows open-opening open-book open-take open-bounds
-cases-hold = all_hold table refl
+pub cases_hold : AllHold table
+unfolding open_loops open_refusals open_numbers open_pile open_acts open_layout open_rows open_opening open_book open_take open_bounds
+cases_hold = all_hold table refl

@@ -8,17 +8,17 @@ use mathlib.Core.List.{List, [], ◌∷◌}
 use lib.Dec.{eqb}
 use borrow.Author.Tests.{eqb-true}
 use Rattle.rules.specs.Loops.{◌and◌, ◌or◌, between, sum, every, some, count, index, flat, list}
-use Rattle.rules.specs.Refusals.{◌when◌, ◌orElse◌, first, done, Reply, refused, value, reply}
+use Rattle.rules.specs.Refusals.{◌when◌, ◌or_else◌, first, done, Reply, refused, value, reply}
 use Rattle.rules.specs.Numbers.{number, bytes, encode}
-use Rattle.rules.specs.Pile.{bothSides, credit, debit, rights, lawful, tonnage, openingLawful, talliesLawful, pileAnswer, sameOpening}
-use Rattle.rules.specs.Acts.{Kind, Act, actRefusal}
-use Rattle.rules.specs.Layout.{sizesInRange, rowLength, bodyLength, frontLength, bodyAt, bookLength, cell_at, pileNumber, position, pileOf, row_of, bodyRow, bodyBytes, headBytes, entryBytes, frontBytes, bookBytes}
-use Rattle.rules.specs.Rows.{at_least, alike, later, rowOrder, isRowLength, compared}
-use Rattle.rules.specs.Opening.{rising, given, givenPile, bufferLength, openingAnswer, opened, afterOpening}
-use Rattle.rules.specs.Book.{headSound, contentsSound, bookAnswer, place, absent, contentsAnswer, afterContents, fetchAnswer, bodyPart, bodyStart, tonnageReply, deskAnswer, rightsReply, actAnswer, tallyAt, afterAct}
-use Rattle.rules.specs.Record.{unusedShares, unusedPlaces, recordAnswer, freshAnswer, recordTonnageReply, recordDeskAnswer, recordRightsReply, recordActAnswer, paddedRow, recordOf, fetched, storeAnswer, afterStore}
-use Rattle.rules.specs.Bounds.{least, most, boundReply, recordBoundReply}
-use Rattle.rules.specs.Take.{rowPart, sameBook, rowAnswer, takeAnswer, takenRow, taken, afterTake, rowChanged, changedRows, takeReport}
+use Rattle.rules.specs.Pile.{both_sides, credit, debit, rights, lawful, tonnage, opening_lawful, tallies_lawful, pile_answer, same_opening}
+use Rattle.rules.specs.Acts.{Kind, Act, act_refusal}
+use Rattle.rules.specs.Layout.{sizes_in_range, row_length, body_length, front_length, body_at, book_length, cell_at, pile_number, position, pile_of, row_of, body_row, body_bytes, head_bytes, entry_bytes, front_bytes, book_bytes}
+use Rattle.rules.specs.Rows.{at_least, alike, later, row_order, is_row_length, compared}
+use Rattle.rules.specs.Opening.{rising, given, given_pile, buffer_length, opening_answer, opened, after_opening}
+use Rattle.rules.specs.Book.{head_sound, contents_sound, book_answer, place, absent, contents_answer, after_contents, fetch_answer, body_part, body_start, tonnage_reply, desk_answer, rights_reply, act_answer, tally_at, after_act}
+use Rattle.rules.specs.Record.{unused_shares, unused_places, record_answer, fresh_answer, record_tonnage_reply, record_desk_answer, record_rights_reply, record_act_answer, padded_row, record_of, fetched, store_answer, after_store}
+use Rattle.rules.specs.Bounds.{least, most, bound_reply, record_bound_reply}
+use Rattle.rules.specs.Take.{row_part, same_book, row_answer, take_answer, taken_row, taken, after_take, row_changed, changed_rows, take_report}
 
 pub record Case : Type 0 where
   pub says : String
@@ -64,60 +64,60 @@ shown (value x) = 0 ∷ x ∷ []
 
 -- what a take answers, what it reports, and the book after it
 abbrev pub takes : ℕ → List ℕ → List ℕ → List ℕ
-takes d own copy = takeAnswer d own copy ∷ takeReport d own copy ∷ afterTake d own copy
+takes d own copy = take_answer d own copy ∷ take_report d own copy ∷ after_take d own copy
 
 -- an act on a pile, and the book after it
-abbrev pub actOn : ℕ → Kind → ℕ → Act
-actOn pile kind t = record { kind = kind; pile = pile; amount = t }
+abbrev pub act_on : ℕ → Kind → ℕ → Act
+act_on pile kind t = record { kind = kind; pile = pile; amount = t }
 
 abbrev pub enter : ℕ → ℕ → Kind → ℕ → List ℕ → List ℕ
-enter i pile kind t b = afterAct i (actOn pile kind t) b
+enter i pile kind t b = after_act i (act_on pile kind t) b
 
 -- What a theorem that computes has to open: a name for each file of definitions.
-unfoldable pub open-loops : Unit {0}
+unfoldable pub open_loops : Unit {0}
 unfolding ◌and◌ ◌or◌ between sum every some count index flat list
-open-loops = tt
+open_loops = tt
 
-unfoldable pub open-refusals : Unit {0}
-unfolding ◌when◌ ◌orElse◌ first done reply
-open-refusals = tt
+unfoldable pub open_refusals : Unit {0}
+unfolding ◌when◌ ◌or_else◌ first done reply
+open_refusals = tt
 
-unfoldable pub open-numbers : Unit {0}
+unfoldable pub open_numbers : Unit {0}
 unfolding number bytes encode
-open-numbers = tt
+open_numbers = tt
 
-unfoldable pub open-pile : Unit {0}
-unfolding bothSides credit debit rights lawful tonnage openingLawful talliesLawful pileAnswer sameOpening
-open-pile = tt
+unfoldable pub open_pile : Unit {0}
+unfolding both_sides credit debit rights lawful tonnage opening_lawful tallies_lawful pile_answer same_opening
+open_pile = tt
 
-unfoldable pub open-acts : Unit {0}
-unfolding actRefusal
-open-acts = tt
+unfoldable pub open_acts : Unit {0}
+unfolding act_refusal
+open_acts = tt
 
-unfoldable pub open-layout : Unit {0}
-unfolding sizesInRange rowLength bodyLength frontLength bodyAt bookLength cell_at pileNumber position pileOf row_of bodyRow bodyBytes headBytes entryBytes frontBytes bookBytes
-open-layout = tt
+unfoldable pub open_layout : Unit {0}
+unfolding sizes_in_range row_length body_length front_length body_at book_length cell_at pile_number position pile_of row_of body_row body_bytes head_bytes entry_bytes front_bytes book_bytes
+open_layout = tt
 
-unfoldable pub open-rows : Unit {0}
-unfolding at_least alike later rowOrder isRowLength compared
-open-rows = tt
+unfoldable pub open_rows : Unit {0}
+unfolding at_least alike later row_order is_row_length compared
+open_rows = tt
 
-unfoldable pub open-opening : Unit {0}
-unfolding rising given givenPile bufferLength openingAnswer opened afterOpening
-open-opening = tt
+unfoldable pub open_opening : Unit {0}
+unfolding rising given given_pile buffer_length opening_answer opened after_opening
+open_opening = tt
 
-unfoldable pub open-book : Unit {0}
-unfolding headSound contentsSound bookAnswer place absent contentsAnswer afterContents fetchAnswer bodyPart bodyStart tonnageReply deskAnswer rightsReply actAnswer tallyAt afterAct
-open-book = tt
+unfoldable pub open_book : Unit {0}
+unfolding head_sound contents_sound book_answer place absent contents_answer after_contents fetch_answer body_part body_start tonnage_reply desk_answer rights_reply act_answer tally_at after_act
+open_book = tt
 
-unfoldable pub open-record : Unit {0}
-unfolding unusedShares unusedPlaces recordAnswer freshAnswer recordTonnageReply recordDeskAnswer recordRightsReply recordActAnswer paddedRow recordOf fetched storeAnswer afterStore
-open-record = tt
+unfoldable pub open_record : Unit {0}
+unfolding unused_shares unused_places record_answer fresh_answer record_tonnage_reply record_desk_answer record_rights_reply record_act_answer padded_row record_of fetched store_answer after_store
+open_record = tt
 
-unfoldable pub open-take : Unit {0}
-unfolding rowPart sameBook rowAnswer takeAnswer takenRow taken afterTake rowChanged changedRows takeReport
-open-take = tt
+unfoldable pub open_take : Unit {0}
+unfolding row_part same_book row_answer take_answer taken_row taken after_take row_changed changed_rows take_report
+open_take = tt
 
-unfoldable pub open-bounds : Unit {0}
-unfolding least most boundReply recordBoundReply
-open-bounds = tt
+unfoldable pub open_bounds : Unit {0}
+unfolding least most bound_reply record_bound_reply
+open_bounds = tt

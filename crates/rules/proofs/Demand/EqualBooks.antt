@@ -11,34 +11,34 @@ use borrow.Author.Tests.{eq-eqb, eqb-true}
 use Rattle.history.proofs.Laws.{own, Ends, run, Entered}
 use Rattle.rules.specs.Pile.{Side, draw, tip, other, Pile}
 use Rattle.rules.specs.Acts.{Kind, spend, give, Act, tally}
-use Rattle.rules.specs.Layout.{pileOf, bookBytes}
-use Rattle.rules.specs.Book.{actAnswer}
+use Rattle.rules.specs.Layout.{pile_of, book_bytes}
+use Rattle.rules.specs.Book.{act_answer}
 use Rattle.rules.specs.Demand.{book}
 use Rattle.rules.proofs.Loops.Logic.{and_both}
-use Rattle.rules.proofs.Pile.Acted.{sameSide, Receives, ActFacts}
-use Rattle.rules.proofs.Pile.Agree.{Agree, agree-sym, agree_trans, tally-cong}
-use Rattle.rules.proofs.File.LawfulBook.{Frame, written-pile, Lawful}
-use Rattle.rules.proofs.Demand.Grown.{at, added, added-append, earnsAt, givesAt, grown}
-use Rattle.rules.proofs.Demand.Runs.{accepted-facts, runs}
+use Rattle.rules.proofs.Pile.Acted.{same_side, Receives, ActFacts}
+use Rattle.rules.proofs.Pile.Agree.{Agree, agree_sym, agree_trans, tally_cong}
+use Rattle.rules.proofs.File.LawfulBook.{Frame, written_pile, Lawful}
+use Rattle.rules.proofs.Demand.Grown.{at, added, added_append, earns_at, gives_at, grown}
+use Rattle.rules.proofs.Demand.Runs.{accepted_facts, runs}
 
-same-itself : (s : Side) → sameSide s s ≡ true
-same-itself draw = refl
-same-itself tip = refl
+same_itself : (s : Side) → same_side s s ≡ true
+same_itself draw = refl
+same_itself tip = refl
 
 module _ (n p : ℕ) (numbers : ℕ → ℕ) where
   -- the acts that add to the tally of a kind in pile k
   abbrev naming : ℕ → Kind → Act → Bool
-  naming k (spend s) = earnsAt p numbers k (other s)
-  naming k (give s j) = givesAt p numbers k s j
+  naming k (spend s) = earns_at p numbers k (other s)
+  naming k (give s j) = gives_at p numbers k s j
 
-  names-itself : (q t : ℕ) (kind : Kind) → naming (at p numbers q) kind (record { kind = kind; pile = q; amount = t }) ≡ true
-  names-itself q t (spend s) = and_both (eq-eqb (at p numbers q) (at p numbers q) refl) (same-itself (other s))
-  names-itself q t (give s j) = and_both (eq-eqb (at p numbers q) (at p numbers q) refl) (and_both (same-itself s) (eq-eqb j j refl))
+  names_itself : (q t : ℕ) (kind : Kind) → naming (at p numbers q) kind (record { kind = kind; pile = q; amount = t }) ≡ true
+  names_itself q t (spend s) = and_both (eq-eqb (at p numbers q) (at p numbers q) refl) (same_itself (other s))
+  names_itself q t (give s j) = and_both (eq-eqb (at p numbers q) (at p numbers q) refl) (and_both (same_itself s) (eq-eqb j j refl))
 
-  tally-grown : (start : ℕ → Pile) (es : List (ℕ × Act)) (k i : ℕ) (kind : Kind)
+  tally_grown : (start : ℕ → Pile) (es : List (ℕ × Act)) (k i : ℕ) (kind : Kind)
       → tally (grown p numbers start es k) i kind ≡ tally (start k) i kind + added (naming k kind) (own i es)
-  tally-grown start es k i (spend s) = refl
-  tally-grown start es k i (give s j) = refl
+  tally_grown start es k i (spend s) = refl
+  tally_grown start es k i (give s j) = refl
 
   -- an act that was accepted of desk i
   pub record Valid (i : ℕ) (a : Act) : Type 0 where
@@ -51,7 +51,7 @@ module _ (n p : ℕ) (numbers : ℕ → ℕ) where
   AllValid i (a ∷ as') = Valid i a × AllValid i as'
 
 module _ (n p : ℕ) (numbers : ℕ → ℕ) (frame : Frame n p numbers) (start : ℕ → Pile) (lawful : Lawful n p start) where
-  valid : (es : List (ℕ × Act)) → Entered book n (bookBytes n p numbers start) es → (i : ℕ) → AllValid n p numbers i (own i es)
+  valid : (es : List (ℕ × Act)) → Entered book n (book_bytes n p numbers start) es → (i : ℕ) → AllValid n p numbers i (own i es)
   valid [] h i = tt
   valid (x ∷ es) h i = go (eqb x.0 i) refl (valid es h.2 i)
     where
@@ -59,8 +59,8 @@ module _ (n p : ℕ) (numbers : ℕ → ℕ) (frame : Frame n p numbers) (start 
           × ActFacts n (grown p numbers start es (at p numbers x.1.pile)) x.0 x.1.kind x.1.amount
       allowed =
           let before = runs n p numbers frame start lawful es h.2 in
-          accepted-facts n p numbers frame _ before.1 x.0 x.1
-          (subst (λ (b : List ℕ). actAnswer x.0 x.1 b ≡ 0) before.0 h.1)
+          accepted_facts n p numbers frame _ before.1 x.0 x.1
+          (subst (λ (b : List ℕ). act_answer x.0 x.1 b ≡ 0) before.0 h.1)
 
       go : (b : Bool) → eqb x.0 i ≡ b → AllValid n p numbers i (own i es)
           → AllValid n p numbers i (cond b (x.1 ∷ own i es) (own i es))
@@ -84,30 +84,30 @@ module _ (n p : ℕ) (numbers : ℕ → ℕ) (frame : Frame n p numbers) (start 
         let k = at p numbers a.pile in
         let N = naming n p numbers k a.kind in
         let same : tally (grown p numbers start es k) i a.kind ≡ tally (grown p numbers start fs k) i a.kind
-        = tally-cong n _ _ (agree k ok.pile) i a.kind i<n ok.receives in
+        = tally_cong n _ _ (agree k ok.pile) i a.kind i<n ok.receives in
         let first : added N (a ∷ (front ++ own i es)) ≡ added N (front ++ own i es) + a.amount
         = ap (λ (b : Bool). cond b (added N (front ++ own i es) + a.amount) (added N (front ++ own i es)))
-        (names-itself n p numbers a.pile a.amount a.kind) in
+        (names_itself n p numbers a.pile a.amount a.kind) in
         absurd
         (omega (
           arith,
           ok.positive,
-          tally-grown n p numbers start es k i a.kind,
-          tally-grown n p numbers start fs k i a.kind,
+          tally_grown n p numbers start es k i a.kind,
+          tally_grown n p numbers start fs k i a.kind,
           ap (added N) e,
-          added-append N front (own i es),
+          added_append N front (own i es),
         ))
 
-  pub equal : (es fs : List (ℕ × Act)) → Entered book n (bookBytes n p numbers start) es → Entered book n (bookBytes n p numbers start) fs
+  pub equal : (es fs : List (ℕ × Act)) → Entered book n (book_bytes n p numbers start) es → Entered book n (book_bytes n p numbers start) fs
       → ((e : ℕ) → Ends (own e es) (own e fs) ⊎ Ends (own e fs) (own e es))
-      → run book (bookBytes n p numbers start) es ≡ run book (bookBytes n p numbers start) fs
+      → run book (book_bytes n p numbers start) es ≡ run book (book_bytes n p numbers start) fs
       → (e : ℕ) → e < n → own e es ≡ own e fs
   equal es fs ran ran' either e i i<n =
       let before = runs n p numbers frame start lawful es ran in
       let after = runs n p numbers frame start lawful fs ran' in
       let agree : (k : ℕ) → k < p → Agree n (grown p numbers start es k) (grown p numbers start fs k)
-      = λ k l. agree_trans (agree-sym (written-pile n p numbers frame _ before.1 k l))
-      (subst (λ (b : List ℕ). Agree n (pileOf b k) (grown p numbers start fs k)) (sym after.0 ∙ sym e ∙ before.0)
-      (written-pile n p numbers frame _ after.1 k l)) in
+      = λ k l. agree_trans (agree_sym (written_pile n p numbers frame _ before.1 k l))
+      (subst (λ (b : List ℕ). Agree n (pile_of b k) (grown p numbers start fs k)) (sym after.0 ∙ sym e ∙ before.0)
+      (written_pile n p numbers frame _ after.1 k l)) in
       ⊎_elim (λ h. no_more es fs agree i i<n h.0 h.1 (valid fs ran' i))
-      (λ h. sym (no_more fs es (λ k l. agree-sym (agree k l)) i i<n h.0 h.1 (valid es ran i))) (either i)
+      (λ h. sym (no_more fs es (λ k l. agree_sym (agree k l)) i i<n h.0 h.1 (valid es ran i))) (either i)

@@ -11,43 +11,43 @@ use lib.Dec.{eqb}
 use Rattle.history.proofs.Sets.{cases}
 use Rattle.rules.specs.Loops.{flat}
 use Rattle.rules.specs.Pile.{Pile}
-use Rattle.rules.specs.Layout.{headOf, headFor, Head, bodyLength, bodyAt, desks, piles, pileNumber, pileOf, frontBytes, bodyBytes, bookBytes}
-use Rattle.rules.specs.Book.{bookAnswer}
-use Rattle.rules.proofs.Loops.Pieces.{flat-cong}
-use Rattle.rules.proofs.Loops.Sets.{sets_behind, sets-in-flat}
+use Rattle.rules.specs.Layout.{head_of, head_for, Head, body_length, body_at, desks, piles, pile_number, pile_of, front_bytes, body_bytes, book_bytes}
+use Rattle.rules.specs.Book.{book_answer}
+use Rattle.rules.proofs.Loops.Pieces.{flat_cong}
+use Rattle.rules.proofs.Loops.Sets.{sets_behind, sets_in_flat}
 use Rattle.rules.proofs.Bytes.Numbers.{Octets}
 use Rattle.rules.proofs.Pile.Facts.{PileFacts}
-use Rattle.rules.proofs.File.Body.{length-body}
-use Rattle.rules.proofs.File.Positions.{body-start}
+use Rattle.rules.proofs.File.Body.{length_body}
+use Rattle.rules.proofs.File.Positions.{body_start_lem}
 use Rattle.rules.proofs.File.Front.{length_front}
-use Rattle.rules.proofs.File.Readable.{book-facts, head_read, rewritten}
+use Rattle.rules.proofs.File.Readable.{book_facts, head_read, rewritten}
 use Rattle.rules.proofs.File.LawfulBook.{Lawful}
 
 abbrev pub replaced : (ℕ → Pile) → ℕ → Pile → ℕ → Pile
 replaced P k q j = cond (eqb j k) q (P j)
 
-pub replaced-lawful : (n p : ℕ) (P : ℕ → Pile) (k : ℕ) (q : Pile) → Lawful n p P → PileFacts n q → Lawful n p (replaced P k q)
-replaced-lawful n p P k q lawful f j l = cases (PileFacts n) (eqb j k) (λ _. f) (λ _. lawful j l)
+pub replaced_lawful : (n p : ℕ) (P : ℕ → Pile) (k : ℕ) (q : Pile) → Lawful n p P → PileFacts n q → Lawful n p (replaced P k q)
+replaced_lawful n p P k q lawful f j l = cases (PileFacts n) (eqb j k) (λ _. f) (λ _. lawful j l)
 
-body_of : (n : ℕ) (p q : Pile) (b : Bool) → cond b (bodyBytes n p) (bodyBytes n q) ≡ bodyBytes n (cond b p q)
+body_of : (n : ℕ) (p q : Pile) (b : Bool) → cond b (body_bytes n p) (body_bytes n q) ≡ body_bytes n (cond b p q)
 body_of n p q true = refl
 body_of n p q false = refl
 
-pub put-body : (n p : ℕ) (numbers : ℕ → ℕ) (P : ℕ → Pile) (k : ℕ) (q : Pile) → k < p
-    → sets (bookBytes n p numbers P) (bodyAt (headFor n p) k) (bodyBytes n q) ≡ bookBytes n p numbers (replaced P k q)
-unfolding bookBytes
-put-body n p numbers P k q l =
-    let front = frontBytes (headFor n p) numbers in
-    let at : bodyAt (headFor n p) k ≡ length front + k * bodyLength n = omega (arith, length_front (headFor n p) numbers, body-start (headFor n p) k) in
-    ap (λ (at : ℕ). sets (bookBytes n p numbers P) at (bodyBytes n q)) at
-    ∙ sets_behind front (flat p (λ j. bodyBytes n (P j))) (k * bodyLength n) (bodyBytes n q)
+pub put_body : (n p : ℕ) (numbers : ℕ → ℕ) (P : ℕ → Pile) (k : ℕ) (q : Pile) → k < p
+    → sets (book_bytes n p numbers P) (body_at (head_for n p) k) (body_bytes n q) ≡ book_bytes n p numbers (replaced P k q)
+unfolding book_bytes
+put_body n p numbers P k q l =
+    let front = front_bytes (head_for n p) numbers in
+    let at : body_at (head_for n p) k ≡ length front + k * body_length n = omega (arith, length_front (head_for n p) numbers, body_start_lem (head_for n p) k) in
+    ap (λ (at : ℕ). sets (book_bytes n p numbers P) at (body_bytes n q)) at
+    ∙ sets_behind front (flat p (λ j. body_bytes n (P j))) (k * body_length n) (body_bytes n q)
     ∙ ap (λ (r : List ℕ). front ++ r)
-    (sets-in-flat p (bodyLength n) (λ j. bodyBytes n (P j)) (λ j _. length-body n (P j)) k (bodyBytes n q) l (length-body n q)
-    ∙ flat-cong p (λ j _. body_of n q (P j) (eqb j k)))
+    (sets_in_flat p (body_length n) (λ j. body_bytes n (P j)) (λ j _. length_body n (P j)) k (body_bytes n q) l (length_body n q)
+    ∙ flat_cong p (λ j _. body_of n q (P j) (eqb j k)))
 
 -- and of a readable book
-pub overwritten : (b : List ℕ) → Octets b → bookAnswer b ≡ 0 → (k : ℕ) → k < piles b → (q : Pile)
-    → sets b (bodyAt (headOf b) k) (bodyBytes (desks b) q) ≡ bookBytes (desks b) (piles b) (pileNumber b) (replaced (pileOf b) k q)
+pub overwritten : (b : List ℕ) → Octets b → book_answer b ≡ 0 → (k : ℕ) → k < piles b → (q : Pile)
+    → sets b (body_at (head_of b) k) (body_bytes (desks b) q) ≡ book_bytes (desks b) (piles b) (pile_number b) (replaced (pile_of b) k q)
 overwritten b o readable k l q =
-    ap₂ (λ (r : List ℕ) (h : Head). sets r (bodyAt h k) (bodyBytes (desks b) q)) (sym (rewritten b o readable)) (head_read b (book-facts b readable))
-    ∙ put-body (desks b) (piles b) (pileNumber b) (pileOf b) k q l
+    ap₂ (λ (r : List ℕ) (h : Head). sets r (body_at h k) (body_bytes (desks b) q)) (sym (rewritten b o readable)) (head_read b (book_facts b readable))
+    ∙ put_body (desks b) (piles b) (pile_number b) (pile_of b) k q l

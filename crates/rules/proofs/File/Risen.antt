@@ -8,36 +8,36 @@ use mathlib.Core.Logic.{◌⊎◌, ⊎_elim}
 use mathlib.Core.Bool.{true, false}
 use borrow.Author.Tests.{lt-ltb, le-ltb, le-leb, lt-leb}
 use Rattle.rules.specs.Loops.{every}
-use Rattle.rules.specs.Layout.{pileNumberLimit}
+use Rattle.rules.specs.Layout.{pile_number_limit}
 use Rattle.rules.specs.Opening.{previous, rising}
-use Rattle.rules.proofs.Loops.Logic.{and_both, and-left-fails, and-right-fails}
-use Rattle.rules.proofs.Loops.Every.{every-next, every-stops}
+use Rattle.rules.proofs.Loops.Logic.{and_both, and_left_fails, and_right_fails}
+use Rattle.rules.proofs.Loops.Every.{every_next, every_stops}
 
 -- the first k of p numbers rise, and the last of them is at hand
 pub record Risen (p : ℕ) (f : ℕ → ℕ) (k last : ℕ) : Type 0 where
   pub counted : k ≤ p
-  pub last-is : last ≡ previous f k
+  pub last_is : last ≡ previous f k
   pub rises : rising k f ≡ true
 
 module _ {p : ℕ} {f : ℕ → ℕ} where
-  pub none-risen : Risen p f 0 0
+  pub none_risen : Risen p f 0 0
   unfolding rising every
-  none-risen = record { counted = omega arith; last-is = refl; rises = refl }
+  none_risen = record { counted = omega arith; last_is = refl; rises = refl }
 
-  pub all-risen : {k last : ℕ} → Risen p f k last → p ≤ k → rising p f ≡ true
-  all-risen {k} r h = let done : k ≡ p = omega arith in rw done at r.rises
+  pub all_risen : {k last : ℕ} → Risen p f k last → p ≤ k → rising p f ≡ true
+  all_risen {k} r h = let done : k ≡ p = omega arith in rw done at r.rises
 
   module _ {k last number : ℕ} (r : Risen p f k last) (k<p : k < p) (is : number ≡ f k) where
-    pub next-risen : last < number → number ≤ pileNumberLimit → Risen p f (k + 1) number
+    pub next_risen : last < number → number ≤ pile_number_limit → Risen p f (k + 1) number
     unfolding rising
-    next-risen above low =
+    next_risen above low =
         record {
           counted = omega arith;
-          last-is = is ∙ ap (previous f) (sym (add-one k));
-          rises = every-next _ _ r.rises (and_both (lt-ltb _ _ (rw (is, r.last-is) at above)) (le-leb _ _ (rw is at low)));
+          last_is = is ∙ ap (previous f) (sym (add-one k));
+          rises = every_next _ _ r.rises (and_both (lt-ltb _ _ (rw (is, r.last_is) at above)) (le-leb _ _ (rw is at low)));
         }
 
-    pub not-risen : (number ≤ last) ⊎ (pileNumberLimit < number) → rising p f ≡ false
+    pub not_risen : (number ≤ last) ⊎ (pile_number_limit < number) → rising p f ≡ false
     unfolding rising
-    not-risen wrong =
-        every-stops _ _ k k<p (⊎_elim (λ l. and-left-fails (le-ltb _ _ (rw (is, r.last-is) at l)) _) (λ l. and-right-fails _ (lt-leb _ _ (rw is at l))) wrong)
+    not_risen wrong =
+        every_stops _ _ k k<p (⊎_elim (λ l. and_left_fails (le-ltb _ _ (rw (is, r.last_is) at l)) _) (λ l. and_right_fails _ (lt-leb _ _ (rw is at l))) wrong)

@@ -11,9 +11,9 @@ use lib.ListN.{length, get_or, set}
 use lib.Seq.{get_or-set_same, get_or-set_other}
 use Rattle.rules.specs.Loops.{sum}
 
-pub sum-next : (k : ℕ) (f : ℕ → ℕ) → sum (k + 1) f ≡ sum k f + f k
+pub sum_next : (k : ℕ) (f : ℕ → ℕ) → sum (k + 1) f ≡ sum k f + f k
 unfolding sum
-sum-next k f = ap (λ (n : ℕ). sum n f) (add-one k)
+sum_next k f = ap (λ (n : ℕ). sum n f) (add-one k)
 
 -- what holds of each element below j, and of the one stored at j, holds of each below j + 1
 pub set_next : (P : ℕ → ℕ → Type 0) (l : List ℕ) (j v : ℕ) → ((k : ℕ) → k < j → P k (get_or l k 0)) → j < length l → P j v

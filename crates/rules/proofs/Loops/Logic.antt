@@ -31,53 +31,53 @@ and_right true b e = e
 and_right false b e = absurd (false≢true e)
 
 -- a number in a range
-pub in-range : (low high x : ℕ) → between low high x ≡ true → (low ≤ x) × (x ≤ high)
+pub in_range : (low high x : ℕ) → between low high x ≡ true → (low ≤ x) × (x ≤ high)
 unfolding between
-in-range low high x e = (leb-true _ _ (and_left _ _ e), leb-true _ _ (and_right _ _ e))
+in_range low high x e = (leb-true _ _ (and_left _ _ e), leb-true _ _ (and_right _ _ e))
 
 pub and_both : {a b : Bool} → a ≡ true → b ≡ true → a and b ≡ true
 unfolding ◌and◌
 and_both p q = ap₂ ◌and◌ p q
 
-pub and-true : (a : Bool) → a and true ≡ a
+pub and_true : (a : Bool) → a and true ≡ a
 unfolding ◌and◌
-and-true true = refl
-and-true false = refl
+and_true true = refl
+and_true false = refl
 
-pub and-false : (a : Bool) → a and false ≡ false
+pub and_false : (a : Bool) → a and false ≡ false
 unfolding ◌and◌
-and-false true = refl
-and-false false = refl
+and_false true = refl
+and_false false = refl
 
-pub and-left-holds : {a : Bool} → a ≡ true → (b : Bool) → b ≡ a and b
+pub and_left_holds : {a : Bool} → a ≡ true → (b : Bool) → b ≡ a and b
 unfolding ◌and◌
-and-left-holds e b = ap (λ (a : Bool). a and b) (sym e)
+and_left_holds e b = ap (λ (a : Bool). a and b) (sym e)
 
 -- one that fails is enough
-pub and-left-fails : {a : Bool} → a ≡ false → (b : Bool) → a and b ≡ false
+pub and_left_fails : {a : Bool} → a ≡ false → (b : Bool) → a and b ≡ false
 unfolding ◌and◌
-and-left-fails e b = ap (λ (a : Bool). a and b) e
+and_left_fails e b = ap (λ (a : Bool). a and b) e
 
-pub and-right-fails : (a : Bool) {b : Bool} → b ≡ false → a and b ≡ false
-and-right-fails a e = ap (λ (b : Bool). a and b) e ∙ and-false a
+pub and_right_fails : (a : Bool) {b : Bool} → b ≡ false → a and b ≡ false
+and_right_fails a e = ap (λ (b : Bool). a and b) e ∙ and_false a
 
-pub and-swap : (a b c : Bool) → a and b and c ≡ b and a and c
+pub and_swap : (a b c : Bool) → a and b and c ≡ b and a and c
 unfolding ◌and◌
-and-swap true b c = refl
-and-swap false b c = sym (and-false b)
+and_swap true b c = refl
+and_swap false b c = sym (and_false b)
 
 pub and_comm : (a b : Bool) → a and b ≡ b and a
 unfolding ◌and◌
-and_comm true b = sym (and-true b)
-and_comm false b = sym (and-false b)
+and_comm true b = sym (and_true b)
+and_comm false b = sym (and_false b)
 
 pub and_last : (a b c : Bool) → a and b and c ≡ c and a and b
-and_last a b c = ap (λ (x : Bool). a and x) (and_comm b c) ∙ and-swap a c b
+and_last a b c = ap (λ (x : Bool). a and x) (and_comm b c) ∙ and_swap a c b
 
-pub and-fails : (a b : Bool) → a and b ≡ false → (a ≡ false) ⊎ (b ≡ false)
+pub and_fails : (a b : Bool) → a and b ≡ false → (a ≡ false) ⊎ (b ≡ false)
 unfolding ◌and◌
-and-fails true b e = inr e
-and-fails false b e = inl refl
+and_fails true b e = inr e
+and_fails false b e = inl refl
 
 pub or_left : (a b : Bool) → a or b ≡ false → a ≡ false
 unfolding ◌or◌
@@ -89,25 +89,25 @@ unfolding ◌or◌
 or_right true b e = absurd (true≢false e)
 or_right false b e = e
 
-pub or-first : {a : Bool} → a ≡ true → (b : Bool) → a or b ≡ true
+pub or_first : {a : Bool} → a ≡ true → (b : Bool) → a or b ≡ true
 unfolding ◌or◌
-or-first e b = ap (λ (a : Bool). a or b) e
+or_first e b = ap (λ (a : Bool). a or b) e
 
-pub or-second : (a : Bool) {b : Bool} → b ≡ true → a or b ≡ true
+pub or_second : (a : Bool) {b : Bool} → b ≡ true → a or b ≡ true
 unfolding ◌or◌
-or-second true e = refl
-or-second false e = e
+or_second true e = refl
+or_second false e = e
 
-pub or-left-fails : {a : Bool} → a ≡ false → (b : Bool) → b ≡ a or b
+pub or_left_fails : {a : Bool} → a ≡ false → (b : Bool) → b ≡ a or b
 unfolding ◌or◌
-or-left-fails e b = ap (λ (a : Bool). a or b) (sym e)
+or_left_fails e b = ap (λ (a : Bool). a or b) (sym e)
 
 -- the second of two, where the first fails
-pub or-other : (a b : Bool) → a ≡ false → a or b ≡ true → b ≡ true
+pub or_other : (a b : Bool) → a ≡ false → a or b ≡ true → b ≡ true
 unfolding ◌or◌
-or-other true b e d = absurd (true≢false e)
-or-other false b e d = d
+or_other true b e d = absurd (true≢false e)
+or_other false b e d = d
 
-pub or-neither : {a b : Bool} → a ≡ false → b ≡ false → a or b ≡ false
+pub or_neither : {a b : Bool} → a ≡ false → b ≡ false → a or b ≡ false
 unfolding ◌or◌
-or-neither p q = ap₂ ◌or◌ p q
+or_neither p q = ap₂ ◌or◌ p q

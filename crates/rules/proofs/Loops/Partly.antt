@@ -8,7 +8,7 @@ use mathlib.Core.List.{List, [], ◌∷◌, ◌++◌, append_assoc}
 use lib.ListN.{length, get_or, drop, set, length-append, length-drop}
 use lib.Seq.{drop-cons, set-append_seam}
 use Rattle.rules.specs.Loops.{flat, list}
-use Rattle.rules.proofs.Loops.Pieces.{length-list}
+use Rattle.rules.proofs.Loops.Pieces.{length_list}
 
 module _ {A : Type 0} (f : ℕ → A) (l : List A) where
   abbrev pub partly : ℕ → List A
@@ -18,15 +18,15 @@ module _ {A : Type 0} (f : ℕ → A) (l : List A) where
   unfolding list flat
   partly_none = refl
 
-  pub length-partly : (k : ℕ) → k ≤ length l → length (partly k) ≡ length l
-  length-partly k h = length-append (list k f) (drop k l) ∙ omega (arith, length-list k f, length-drop k l)
+  pub length_partly : (k : ℕ) → k ≤ length l → length (partly k) ≡ length l
+  length_partly k h = length-append (list k f) (drop k l) ∙ omega (arith, length_list k f, length-drop k l)
 
   -- a store behind what is filled fills one element more
-  pub partly-next : (k : ℕ) → k < length l → set (partly k) k (f k) ≡ partly (k + 1)
+  pub partly_next : (k : ℕ) → k < length l → set (partly k) k (f k) ≡ partly (k + 1)
   unfolding list flat
-  partly-next k h =
+  partly_next k h =
       ap (λ (r : List A). set (list k f ++ r) k (f k)) (drop-cons l k (f k) h)
-      ∙ ap (λ (n : ℕ). set (list k f ++ get_or l k (f k) ∷ drop (suc k) l) n (f k)) (sym (length-list k f))
+      ∙ ap (λ (n : ℕ). set (list k f ++ get_or l k (f k) ∷ drop (suc k) l) n (f k)) (sym (length_list k f))
       ∙ set-append_seam (list k f) (get_or l k (f k)) (drop (suc k) l) (f k)
       ∙ sym (append_assoc (list k f) (f k ∷ []) (drop (suc k) l))
       ∙ ap partly (sym (add-one k))

@@ -14,14 +14,14 @@ length_part at m l fits = length-take-le m (drop at l) (omega (arith, length-dro
 pub get_d_part : (at m : ℕ) (l : List ℕ) (j : ℕ) → j < m → get_or (part at m l) j 0 ≡ get_or l (at + j) 0
 get_d_part at m l j j<m = get_or-take m (drop at l) j 0 j<m ∙ get_or-drop at l j 0
 
-pub part-is : (at m : ℕ) (l l' : List ℕ) → at + m ≤ length l → length l' ≡ m → ((j : ℕ) → j < m → get_or l (at + j) 0 ≡ get_or l' j 0) → part at m l ≡ l'
-part-is at m l l' fits len h =
+pub part_is : (at m : ℕ) (l l' : List ℕ) → at + m ≤ length l → length l' ≡ m → ((j : ℕ) → j < m → get_or l (at + j) 0 ≡ get_or l' j 0) → part at m l ≡ l'
+part_is at m l l' fits len h =
     ext_get_or 0 (part at m l) l' (length_part at m l fits ∙ sym len) (λ j below.
     let j<m : j < m = subst (λ (k : ℕ). j < k) (length_part at m l fits) below in
     get_d_part at m l j j<m ∙ h j j<m)
 
-pub sets-part : (at m : ℕ) (l : List ℕ) → at + m ≤ length l → sets l at (part at m l) ≡ l
-sets-part at m l fits =
+pub sets_part : (at m : ℕ) (l : List ℕ) → at + m ≤ length l → sets l at (part at m l) ≡ l
+sets_part at m l fits =
     let len = length_part at m l fits in
     sets-eq (part at m l) l at (omega arith)
     ∙ ap (λ (k : ℕ). take at l ++ part at m l ++ drop (at + k) l) len

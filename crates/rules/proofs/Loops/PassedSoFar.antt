@@ -10,19 +10,19 @@ use Rattle.rules.proofs.Loops.Refusals.{first_next, first_stops}
 -- the first k of p are not refused
 pub record PassedSoFar (p : ℕ) (answer : ℕ → ℕ) (k : ℕ) : Type 0 where
   pub counted : k ≤ p
-  pub not-refused : first k answer ≡ 0
+  pub not_refused : first k answer ≡ 0
 
 module _ {p : ℕ} {answer : ℕ → ℕ} where
-  pub none-asked : PassedSoFar p answer 0
+  pub none_asked : PassedSoFar p answer 0
   unfolding first
-  none-asked = record { counted = omega arith; not-refused = refl }
+  none_asked = record { counted = omega arith; not_refused = refl }
 
-  pub all-passed : {k : ℕ} → PassedSoFar p answer k → p ≤ k → 0 ≡ first p answer
-  all-passed {k} passed h = let done : k ≡ p = omega arith in sym (rw done at passed.not-refused)
+  pub all_passed : {k : ℕ} → PassedSoFar p answer k → p ≤ k → 0 ≡ first p answer
+  all_passed {k} passed h = let done : k ≡ p = omega arith in sym (rw done at passed.not_refused)
 
   module _ {k m : ℕ} (passed : PassedSoFar p answer k) (k<p : k < p) (is : m ≡ answer k) where
-    pub next-passed : m ≡ 0 → PassedSoFar p answer (k + 1)
-    next-passed z = record { counted = omega arith; not-refused = first_next k answer passed.not-refused (sym is ∙ z) }
+    pub next_passed : m ≡ 0 → PassedSoFar p answer (k + 1)
+    next_passed z = record { counted = omega arith; not_refused = first_next k answer passed.not_refused (sym is ∙ z) }
 
-    pub refused-first : m ≢ 0 → m ≡ first p answer
-    refused-first d = is ∙ sym (first_stops p answer k k<p passed.not-refused (λ z. d (is ∙ z)))
+    pub refused_first : m ≢ 0 → m ≡ first p answer
+    refused_first d = is ∙ sym (first_stops p answer k k<p passed.not_refused (λ z. d (is ∙ z)))

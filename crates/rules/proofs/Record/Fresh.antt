@@ -7,37 +7,37 @@ use mathlib.Core.List.{List}
 use lib.ListN.{get_or, replicate, length-replicate}
 use lib.Dec.{ltb}
 use Rattle.rules.specs.Refusals.{◌when◌}
-use Rattle.rules.specs.Pile.{Side, Pile, openingLawful}
-use Rattle.rules.specs.Layout.{earnedColumn, column}
-use Rattle.rules.specs.Record.{zeroTallies, fresh, freshAnswer, freshRecord, recordAnswer, recordOf, rowPlaces, tallyPlaces}
-use Rattle.rules.proofs.Loops.Refusals.{when-accepted}
-use Rattle.rules.proofs.Pile.Fresh.{fresh-pile-answer}
-use Rattle.rules.proofs.Record.RecordOf.{tallies-are, record-of-answer}
+use Rattle.rules.specs.Pile.{Side, Pile, opening_lawful}
+use Rattle.rules.specs.Layout.{earned_column, column}
+use Rattle.rules.specs.Record.{zero_tallies, fresh, fresh_answer, fresh_record, record_answer, record_of, row_places, tally_places}
+use Rattle.rules.proofs.Loops.Refusals.{when_accepted}
+use Rattle.rules.proofs.Pile.Fresh.{fresh_pile_answer}
+use Rattle.rules.proofs.Record.RecordOf.{tallies_are, record_of_answer}
 
-zero-at : (m k : ℕ) → get_or {A = ℕ} (replicate m 0) k 0 ≡ 0
-zero-at zero k = refl
-zero-at (suc m) zero = refl
-zero-at (suc m) (suc k) = zero-at m k
+zero_at : (m k : ℕ) → get_or {A = ℕ} (replicate m 0) k 0 ≡ 0
+zero_at zero k = refl
+zero_at (suc m) zero = refl
+zero_at (suc m) (suc k) = zero_at m k
 
 -- used or not
-zero-padded : (used : Bool) {x : ℕ} → x ≡ 0 → cond used x 0 ≡ 0
-zero-padded true e = e
-zero-padded false e = refl
+zero_padded : (used : Bool) {x : ℕ} → x ≡ 0 → cond used x 0 ≡ 0
+zero_padded true e = e
+zero_padded false e = refl
 
 module _ (n : ℕ) (p : Pile) (earned : (s : Side) (i : ℕ) → p.earned s i ≡ 0) (give : (s : Side) (i j : ℕ) → p.give s i j ≡ 0) where
-  module _ {shares : List ℕ} (is : shares ≡ (recordOf n p).shares) where
-    pub fresh-is : fresh n p.floor p.top shares ≡ recordOf n p
-    unfolding recordOf
-    fresh-is =
+  module _ {shares : List ℕ} (is : shares ≡ (record_of n p).shares) where
+    pub fresh_is : fresh n p.floor p.top shares ≡ record_of n p
+    unfolding record_of
+    fresh_is =
         ap₂ (λ (l m : List ℕ). record { n = n; floor = p.floor; top = p.top; shares = l; tallies = m }) is
-        (tallies-are n p zeroTallies (length-replicate {A = ℕ} tallyPlaces 0)
-        (λ s i _. zero-at tallyPlaces (i * rowPlaces + earnedColumn s) ∙ sym (zero-padded (ltb i n) (earned s i)))
-        (λ s i j _ _. zero-at tallyPlaces (i * rowPlaces + column 8 s j) ∙ sym (zero-padded (ltb i n) (zero-padded (ltb j n) (give s i j)))))
+        (tallies_are n p zero_tallies (length-replicate {A = ℕ} tally_places 0)
+        (λ s i _. zero_at tally_places (i * row_places + earned_column s) ∙ sym (zero_padded (ltb i n) (earned s i)))
+        (λ s i j _ _. zero_at tally_places (i * row_places + column 8 s j) ∙ sym (zero_padded (ltb i n) (zero_padded (ltb j n) (give s i j)))))
 
-    pub fresh-answer : 1 ≤ n → n ≤ 8 → freshAnswer n p.floor p.top shares ≡ 5 when not (openingLawful n p)
-    unfolding freshAnswer
-    fresh-answer 1≤n n≤8 = ap recordAnswer fresh-is ∙ record-of-answer n p n≤8 1≤n ∙ fresh-pile-answer n p earned give
+    pub fresh_answer_lem : 1 ≤ n → n ≤ 8 → fresh_answer n p.floor p.top shares ≡ 5 when not (opening_lawful n p)
+    unfolding fresh_answer
+    fresh_answer_lem 1≤n n≤8 = ap record_answer fresh_is ∙ record_of_answer n p n≤8 1≤n ∙ fresh_pile_answer n p earned give
 
-    pub fresh-record : freshAnswer n p.floor p.top shares ≡ 0 → freshRecord n p.floor p.top shares ≡ recordOf n p
-    unfolding freshRecord
-    fresh-record e = when-accepted _ _ _ e ∙ fresh-is
+    pub fresh_record_lem : fresh_answer n p.floor p.top shares ≡ 0 → fresh_record n p.floor p.top shares ≡ record_of n p
+    unfolding fresh_record
+    fresh_record_lem e = when_accepted _ _ _ e ∙ fresh_is

@@ -4,33 +4,33 @@ use Prim.Native.Nat.{ℕ, ◌<◌}
 use mathlib.Core.Path.{◌≡◌, ◌∙◌}
 use mathlib.Core.List.{List}
 use Rattle.rules.specs.Pile.{Pile}
-use Rattle.rules.specs.Layout.{headOf, bodyAt, desks, piles, pileOf}
-use Rattle.rules.specs.Book.{bookAnswer, place, deskAnswer}
-use Rattle.rules.specs.Record.{recordView, recordAnswer, recordOf, deskStart, deskCount}
-use Rattle.rules.proofs.Loops.Refusals.{when-accepted}
+use Rattle.rules.specs.Layout.{head_of, body_at, desks, piles, pile_of}
+use Rattle.rules.specs.Book.{book_answer, place, desk_answer}
+use Rattle.rules.specs.Record.{record_view, record_answer, record_of, desk_start, desk_count}
+use Rattle.rules.proofs.Loops.Refusals.{when_accepted}
 use Rattle.rules.proofs.Pile.Agree.{Agree}
-use Rattle.rules.proofs.File.Readable.{book-facts}
-use Rattle.rules.proofs.Record.RecordOf.{record-agrees, record-of-answer}
+use Rattle.rules.proofs.File.Readable.{book_facts}
+use Rattle.rules.proofs.Record.RecordOf.{record_agrees, record_of_answer}
 
-module _ (b : List ℕ) (k : ℕ) (readable : bookAnswer b ≡ 0) (k<p : k < piles b) where
+module _ (b : List ℕ) (k : ℕ) (readable : book_answer b ≡ 0) (k<p : k < piles b) where
   abbrev n : ℕ
   n = desks b
 
   abbrev P : Pile
-  P = pileOf b k
+  P = pile_of b k
 
-  pub body-agrees : Agree n (recordView (recordOf n P)) P
-  body-agrees = record-agrees n P (book-facts b readable).sizes.desks-most
+  pub body_agrees : Agree n (record_view (record_of n P)) P
+  body_agrees = record_agrees n P (book_facts b readable).sizes.desks_most
 
-  pub body-record : recordAnswer (recordOf n P) ≡ 0
-  body-record = let f = book-facts b readable in record-of-answer n P f.sizes.desks-most f.sizes.desks-least ∙ f.bodies k k<p
+  pub body_record_lem : record_answer (record_of n P) ≡ 0
+  body_record_lem = let f = book_facts b readable in record_of_answer n P f.sizes.desks_most f.sizes.desks_least ∙ f.bodies k k<p
 
 -- what a desk's call finds
-module _ (i : ℕ) (b : List ℕ) (number : ℕ) (found : deskAnswer i b number ≡ 0) where
-  pub found-start : deskStart i b number ≡ bodyAt (headOf b) (place b number)
-  unfolding deskStart
-  found-start = when-accepted _ _ _ found
+module _ (i : ℕ) (b : List ℕ) (number : ℕ) (found : desk_answer i b number ≡ 0) where
+  pub found_start : desk_start i b number ≡ body_at (head_of b) (place b number)
+  unfolding desk_start
+  found_start = when_accepted _ _ _ found
 
-  pub found-count : deskCount i b number ≡ desks b
-  unfolding deskCount
-  found-count = when-accepted _ _ _ found
+  pub found_count : desk_count i b number ≡ desks b
+  unfolding desk_count
+  found_count = when_accepted _ _ _ found

@@ -11,44 +11,44 @@ use lib.Dec.{eqb}
 use lib.Seq.{sets}
 use borrow.Author.Tests.{eqb-true, eq-eqb, ne_eqb}
 use Rattle.rules.specs.Pile.{Pile}
-use Rattle.rules.specs.Layout.{headOf, bodyLength, bodyAt, desks, piles, pileNumber, pileOf, bookBytes}
-use Rattle.rules.specs.Book.{bookAnswer, place, absent, fetchAnswer}
-use Rattle.rules.specs.Record.{Record, recordView, recordAnswer, recordOf, fetched, storeAnswer, afterStore, InMemory, FetchStore, StoreFetch}
+use Rattle.rules.specs.Layout.{head_of, body_length, body_at, desks, piles, pile_number, pile_of, book_bytes}
+use Rattle.rules.specs.Book.{book_answer, place, absent, fetch_answer}
+use Rattle.rules.specs.Record.{Record, record_view, record_answer, record_of, fetched, store_answer, after_store, InMemory, FetchStore, StoreFetch}
 use Rattle.rules.proofs.Loops.Logic.{and_left, and_both}
-use Rattle.rules.proofs.Loops.Refusals.{when-not-done, not-met, none-met, orElse-first, orElse-rest, when-accepted}
-use Rattle.rules.proofs.Loops.Parts.{sets-part}
+use Rattle.rules.proofs.Loops.Refusals.{when_not_done, not_met, none_met, or_else_first, or_else_rest, when_accepted}
+use Rattle.rules.proofs.Loops.Parts.{sets_part}
 use Rattle.rules.proofs.Bytes.Numbers.{Octets}
 use Rattle.rules.proofs.Pile.Facts.{PileFacts, facts}
-use Rattle.rules.proofs.Pile.Agree.{Agree, same-opening}
-use Rattle.rules.proofs.File.Written.{open-head}
-use Rattle.rules.proofs.File.Body.{write-body, body-cong}
-use Rattle.rules.proofs.File.Positions.{body-within}
-use Rattle.rules.proofs.File.Readable.{BookFacts, book-facts}
-use Rattle.rules.proofs.File.LawfulBook.{Frame, Lawful, readable-frame, written-place, written-pile, written-readable}
-use Rattle.rules.proofs.File.Found.{found-readable, found-place, desk-0-fetch}
-use Rattle.rules.proofs.File.PutBody.{replaced, replaced-lawful, overwritten}
-use Rattle.rules.proofs.Record.Facts.{record-facts}
-use Rattle.rules.proofs.Record.RecordOf.{record-agrees}
-use Rattle.rules.proofs.Record.OfBody.{body-record}
-use Rattle.rules.proofs.Record.Agreeing.{record-of-agreeing}
+use Rattle.rules.proofs.Pile.Agree.{Agree, same_opening_lem}
+use Rattle.rules.proofs.File.Written.{open_head}
+use Rattle.rules.proofs.File.Body.{write_body, body_cong}
+use Rattle.rules.proofs.File.Positions.{body_within}
+use Rattle.rules.proofs.File.Readable.{BookFacts, book_facts}
+use Rattle.rules.proofs.File.LawfulBook.{Frame, Lawful, readable_frame, written_place, written_pile, written_readable}
+use Rattle.rules.proofs.File.Found.{found_readable, found_place, desk_0_fetch}
+use Rattle.rules.proofs.File.PutBody.{replaced, replaced_lawful, overwritten}
+use Rattle.rules.proofs.Record.Facts.{record_facts}
+use Rattle.rules.proofs.Record.RecordOf.{record_agrees}
+use Rattle.rules.proofs.Record.OfBody.{body_record_lem}
+use Rattle.rules.proofs.Record.Agreeing.{record_of_agreeing}
 
-pub body-in : (b : List ℕ) → BookFacts b → (k : ℕ) → k < piles b → bodyAt (headOf b) k + bodyLength (desks b) ≤ length b
-body-in b f k l = omega (arith, f.sized, body-within (headOf b) k l)
+pub body_in_lem : (b : List ℕ) → BookFacts b → (k : ℕ) → k < piles b → body_at (head_of b) k + body_length (desks b) ≤ length b
+body_in_lem b f k l = omega (arith, f.sized, body_within (head_of b) k l)
 
 -- a pile that is fetched
-module _ (b : List ℕ) (number : ℕ) (found : fetchAnswer b number ≡ 0) where
-  pub fetched-readable : bookAnswer b ≡ 0
-  fetched-readable = found-readable 0 b number (desk-0-fetch b number ∙ found)
+module _ (b : List ℕ) (number : ℕ) (found : fetch_answer b number ≡ 0) where
+  pub fetched_readable : book_answer b ≡ 0
+  fetched_readable = found_readable 0 b number (desk_0_fetch b number ∙ found)
 
-  pub fetched-place : place b number < piles b
-  fetched-place = found-place 0 b number (desk-0-fetch b number ∙ found)
+  pub fetched_place : place b number < piles b
+  fetched_place = found_place 0 b number (desk_0_fetch b number ∙ found)
 
-  pub fetched-is : fetched b number ≡ recordOf (desks b) (pileOf b (place b number))
+  pub fetched_is : fetched b number ≡ record_of (desks b) (pile_of b (place b number))
   unfolding fetched
-  fetched-is = when-accepted _ _ _ found
+  fetched_is = when_accepted _ _ _ found
 
 -- fetching and storing again restores the file
-module _ (b : List ℕ) (number : ℕ) (o : Octets b) (found : fetchAnswer b number ≡ 0) where
+module _ (b : List ℕ) (number : ℕ) (o : Octets b) (found : fetch_answer b number ≡ 0) where
   abbrev n : ℕ
   n = desks b
 
@@ -56,94 +56,94 @@ module _ (b : List ℕ) (number : ℕ) (o : Octets b) (found : fetchAnswer b num
   k = place b number
 
   abbrev P : Pile
-  P = pileOf b k
+  P = pile_of b k
 
   book : BookFacts b
-  book = book-facts b (fetched-readable b number found)
+  book = book_facts b (fetched_readable b number found)
 
-  agrees : Agree n (recordView (recordOf n P)) P
-  agrees = record-agrees n P book.sizes.desks-most
+  agrees : Agree n (record_view (record_of n P)) P
+  agrees = record_agrees n P book.sizes.desks_most
 
-  store-passes : storeAnswer b number (recordOf n P) ≡ 0
-  unfolding storeAnswer recordOf
-  store-passes =
-      none-met found (none-met (body-record b k (fetched-readable b number found) (fetched-place b number found))
-      (not-met 30 (ap not (and_both (eq-eqb n n refl) (same-opening n _ P agrees.floor agrees.top agrees.share)))))
+  store_passes : store_answer b number (record_of n P) ≡ 0
+  unfolding store_answer record_of
+  store_passes =
+      none_met found (none_met (body_record_lem b k (fetched_readable b number found) (fetched_place b number found))
+      (not_met 30 (ap not (and_both (eq-eqb n n refl) (same_opening_lem n _ P agrees.floor agrees.top agrees.share)))))
 
-  store-restores : afterStore b number (recordOf n P) ≡ b
-  unfolding afterStore pileOf
-  store-restores =
-      let fits = body-in b book k (fetched-place b number found) in
-      when-accepted _ _ _ store-passes
-      ∙ ap (sets b (bodyAt (headOf b) k)) (body-cong n _ P agrees ∙ write-body n b (bodyAt (headOf b) k) o fits)
-      ∙ sets-part (bodyAt (headOf b) k) (bodyLength n) b fits
+  store_restores : after_store b number (record_of n P) ≡ b
+  unfolding after_store pile_of
+  store_restores =
+      let fits = body_in_lem b book k (fetched_place b number found) in
+      when_accepted _ _ _ store_passes
+      ∙ ap (sets b (body_at (head_of b) k)) (body_cong n _ P agrees ∙ write_body n b (body_at (head_of b) k) o fits)
+      ∙ sets_part (body_at (head_of b) k) (body_length n) b fits
 
-  restored : (storeAnswer b number (fetched b number) ≡ 0) × (afterStore b number (fetched b number) ≡ b)
-  restored = rw (fetched-is b number found) (store-passes, store-restores)
+  restored : (store_answer b number (fetched b number) ≡ 0) × (after_store b number (fetched b number) ≡ b)
+  restored = rw (fetched_is b number found) (store_passes, store_restores)
 
-pub fetch-store : FetchStore
-fetch-store = restored
+pub fetch_store : FetchStore
+fetch_store = restored
 
 -- a stored pile is fetched unaltered: the file is then the one written with that pile replaced
-module _ (b : List ℕ) (number : ℕ) (r : Record) (o : Octets b) (arrays : InMemory r) (stored : storeAnswer b number r ≡ 0) where
-  found : fetchAnswer b number ≡ 0
-  unfolding storeAnswer
-  found = orElse-first _ _ stored
+module _ (b : List ℕ) (number : ℕ) (r : Record) (o : Octets b) (arrays : InMemory r) (stored : store_answer b number r ≡ 0) where
+  found : fetch_answer b number ≡ 0
+  unfolding store_answer
+  found = or_else_first _ _ stored
 
-  passed : recordAnswer r ≡ 0
-  unfolding storeAnswer
-  passed = orElse-first _ _ (orElse-rest _ _ stored)
+  passed : record_answer r ≡ 0
+  unfolding store_answer
+  passed = or_else_first _ _ (or_else_rest _ _ stored)
 
-  own-desks : r.n ≡ desks b
-  unfolding storeAnswer
-  own-desks = eqb-true _ _ (and_left _ _ (when-not-done _ _ (orElse-rest _ _ (orElse-rest _ _ stored))))
+  own_desks : r.n ≡ desks b
+  unfolding store_answer
+  own_desks = eqb-true _ _ (and_left _ _ (when_not_done _ _ (or_else_rest _ _ (or_else_rest _ _ stored))))
 
   before : BookFacts b
-  before = book-facts b (fetched-readable b number found)
+  before = book_facts b (fetched_readable b number found)
 
   abbrev after : ℕ → Pile
-  after = replaced (pileOf b) (place b number) (recordView r)
+  after = replaced (pile_of b) (place b number) (record_view r)
 
   abbrev written : List ℕ
-  written = bookBytes (desks b) (piles b) (pileNumber b) after
+  written = book_bytes (desks b) (piles b) (pile_number b) after
 
-  after_store : afterStore b number r ≡ written
-  unfolding afterStore
-  after_store =
-      when-accepted _ _ _ stored
-      ∙ overwritten b o (fetched-readable b number found) (place b number) (fetched-place b number found) (recordView r)
+  after_store_lem : after_store b number r ≡ written
+  unfolding after_store
+  after_store_lem =
+      when_accepted _ _ _ stored
+      ∙ overwritten b o (fetched_readable b number found) (place b number) (fetched_place b number found) (record_view r)
 
-  frame : Frame (desks b) (piles b) (pileNumber b)
-  frame = readable-frame b before
+  frame : Frame (desks b) (piles b) (pile_number b)
+  frame = readable_frame b before
 
   lawful : Lawful (desks b) (piles b) after
   lawful =
-      replaced-lawful _ _ _ _ _ (λ k l. facts (desks b) (pileOf b k) (before.bodies k l))
-      (subst (λ (n : ℕ). PileFacts n (recordView r)) own-desks (record-facts r passed).pile)
+      replaced_lawful _ _ _ _ _ (λ k l. facts (desks b) (pile_of b k) (before.bodies k l))
+      (subst (λ (n : ℕ). PileFacts n (record_view r)) own_desks (record_facts r passed).pile)
 
   written_at : place written number ≡ place b number
   unfolding place
-  written_at = written-place _ _ _ frame after number
+  written_at = written_place _ _ _ frame after number
 
-  stored-found : fetchAnswer written number ≡ 0
-  unfolding fetchAnswer absent open-head
-  stored-found =
-      none-met (written-readable _ _ _ frame after lawful)
-      (not-met 10 (ap (λ (k : ℕ). eqb k (piles b)) written_at ∙ ne_eqb _ _ (ne_of_lt (fetched-place b number found))))
+  stored_found : fetch_answer written number ≡ 0
+  unfolding fetch_answer absent open_head
+  stored_found =
+      none_met (written_readable _ _ _ frame after lawful)
+      (not_met 10 (ap (λ (k : ℕ). eqb k (piles b)) written_at ∙ ne_eqb _ _ (ne_of_lt (fetched_place b number found))))
 
-  stored-pile : Agree (desks b) (pileOf written (place b number)) (recordView r)
-  stored-pile = rw (eq-eqb (place b number) (place b number) refl) at (written-pile _ _ _ frame after lawful (place b number) (fetched-place b number found))
+  stored_pile : Agree (desks b) (pile_of written (place b number)) (record_view r)
+  stored_pile = rw (eq-eqb (place b number) (place b number) refl) at (written_pile _ _ _ frame after lawful (place b number) (fetched_place b number found))
 
   unaltered : fetched written number ≡ r
-  unfolding open-head
+  unfolding open_head
   unaltered =
-      fetched-is written number stored-found
-      ∙ ap (λ (k : ℕ). recordOf (desks b) (pileOf written k)) written_at
-      ∙ subst (λ (n : ℕ). (p : Pile) → Agree n p (recordView r) → recordOf n p ≡ r) own-desks
-      (record-of-agreeing r (record-facts r passed) arrays.shares-long arrays.tallies-long) _ stored-pile
+      fetched_is written number stored_found
+      ∙ ap (λ (k : ℕ). record_of (desks b) (pile_of written k)) written_at
+      ∙ subst (λ (n : ℕ). (p : Pile) → Agree n p (record_view r) → record_of n p ≡ r) own_desks
+      (record_of_agreeing r (record_facts r passed) arrays.shares_long arrays.tallies_long) _ stored_pile
 
-  fetched-again : (fetchAnswer (afterStore b number r) number ≡ 0) × (fetched (afterStore b number r) number ≡ r)
-  fetched-again = rw after_store (stored-found, unaltered)
+  fetched_again : (fetch_answer (after_store b number r) number ≡ 0) × (fetched (after_store b number r) number ≡ r)
+  fetched_again = rw after_store_lem (stored_found, unaltered)
 
-pub store-fetch : StoreFetch
-store-fetch = fetched-again
+pub store_fetch : StoreFetch
+store_fetch = fetched_again

@@ -1,14 +1,14 @@
 -- `store` stores the record's numbers.
 -- Assumes nothing.
 use Rattle.rules.specs.Record.{InMemory}
-use Rattle.pile.specs.View.{asRecord}
-use Rattle.store.proofs.Lists.{store-struct}
+use Rattle.pile.specs.View.{as_record}
+use Rattle.store.proofs.Lists.{store_struct}
 use borrow.Author.Rules.{rules}
 use Rattle.store.proofs.store.Statement.{statement}
 use Rattle.store.proofs.store.Tie as tie
 
-arrays : (c : tie.Start) → InMemory (asRecord c.args.pile)
-arrays c = record { shares-long = search rules; tallies-long = search rules }
+arrays : (c : tie.Start) → InMemory (as_record c.args.pile)
+arrays c = record { shares_long = search rules; tallies_long = search rules }
 
 numbers-requires : tie.Need-numbers-requires
 numbers-requires c κs = search rules
@@ -27,7 +27,7 @@ returns c =
     let stored = c.before.before in
     let made = stored.before.before.before in
     let start = made.before.before in
-    store-struct _ _ (asRecord start.args.pile) (arrays start) made.numbers.ensures stored.store-numbers.ensures
+    store_struct _ _ (as_record start.args.pile) (arrays start) made.numbers.ensures stored.store-numbers.ensures
 
 pub store_spec : {M : Type 1} → statement M
 store_spec =

@@ -2,7 +2,7 @@
 -- Assumes nothing.
 use lib.ListN.{length-set}
 use borrow.Author.Rules.{rules}
-use Rattle.ticket.proofs.Lines.{fields-written}
+use Rattle.ticket.proofs.Lines.{fields_written}
 use Rattle.ticket.proofs.put.Statement.{statement}
 use Rattle.ticket.proofs.put.Tie as tie
 
@@ -28,7 +28,7 @@ returns : tie.Need-returns
 returns c =
     let third = c.before.before in
     let second = third.before.before.before.before in
-    rw (third.pack3.ensures, second.pack2.ensures, second.before.before.before.before.pack.ensures) (fields-written _ _)
+    rw (third.pack3.ensures, second.pack2.ensures, second.before.before.before.before.pack.ensures) (fields_written _ _)
 
 pub put_spec : {M : Type 1} → statement M
 put_spec =

@@ -2,11 +2,11 @@
 -- Assumes nothing.
 use native.Mathlib.Omega.{arith}
 use mathlib.Core.Path.{refl, ap, ◌∙◌}
-use Rattle.rules.specs.Pile.{pileAnswer}
+use Rattle.rules.specs.Pile.{pile_answer}
 use Rattle.layout.specs.Inner.{BodyWithin}
-use Rattle.layout.proofs.Sizes.{no-desks, some-desks, size_is}
-use Rattle.layout.proofs.Views.{within-from, view-from}
-use Rattle.audit.proofs.OfAccount.{account-2, account-3, account-judged}
+use Rattle.layout.proofs.Sizes.{no_desks, some_desks, size_is}
+use Rattle.layout.proofs.Views.{within_from, view_from}
+use Rattle.audit.proofs.OfAccount.{account_2, account_3, account_judged}
 use borrow.Author.Rules.{rules}
 use Rattle.audit.proofs.accounts.account_answer.Statement.{statement}
 use Rattle.audit.proofs.accounts.account_answer.Tie as tie
@@ -22,18 +22,18 @@ within : (c : tie.Else3) → let a = (start (sized c).before).args in BodyWithin
 within c =
     let size = (sized c).before.body-length.ensures in
     let some = (sized c).if1.false in
-    record { desks-most = (some-desks _ size some).1; within = omega (arith, size_is _ size some, c.before.if2.false, c.if3.false) }
+    record { desks_most = (some_desks _ size some).1; within = omega (arith, size_is _ size some, c.before.if2.false, c.if3.false) }
 
 body-length-requires : tie.Need-body-length-requires
 body-length-requires c κs = search rules
 
 returns : tie.Need-returns
-returns c = account-2 _ _ _ (no-desks _ c.before.body-length.ensures c.if1.true)
+returns c = account_2 _ _ _ (no_desks _ c.before.body-length.ensures c.if1.true)
 
 returns-2 : tie.Need-returns-2
 returns-2 c =
     let size = c.before.before.body-length.ensures in
-    account-3 _ _ _ (some-desks _ size c.before.if1.false) (omega (arith, c.if2.true))
+    account_3 _ _ _ (some_desks _ size c.before.if1.false) (omega (arith, c.if2.true))
 
 sub-if3 : tie.Need-overflow-sub-if3
 sub-if3 c = search rules
@@ -42,7 +42,7 @@ returns-3 : tie.Need-returns-3
 returns-3 c =
     let one = c.before.before in
     let size = one.before.body-length.ensures in
-    account-3 _ _ _ (some-desks _ size one.if1.false) (omega (arith, size_is _ size one.if1.false, c.before.if2.false, c.if3.true))
+    account_3 _ _ _ (some_desks _ size one.if1.false) (omega (arith, size_is _ size one.if1.false, c.before.if2.false, c.if3.true))
 
 sub-body-answer : tie.Need-overflow-sub-body-answer
 sub-body-answer c = search rules
@@ -68,7 +68,7 @@ slice-aggregate-body-answer-4 c = search rules
 body-answer-requires : tie.Need-body-answer-requires
 body-answer-requires c κs =
     let last = c.before.before.before.before.before in
-    (within-from (within last), record { draws-long = refl; draw-given-long = refl; tips-long = refl; tip-given-long = refl })
+    (within_from (within last), record { draws_long = refl; draw_given_long = refl; tips_long = refl; tip_given_long = refl })
 
 returns-4 : tie.Need-returns-4
 returns-4 c =
@@ -76,11 +76,11 @@ returns-4 c =
     let last = asked.before.before.before.before.before.before in
     let one = sized last in
     let a = (start one.before).args in
-    asked.body-answer.ensures.0 ∙ ap (pileAnswer a.n) (view-from a.n a.bytes.now a.at)
-    ∙ account-judged _ _ _ (some-desks _ one.before.body-length.ensures one.if1.left) (within last).within
+    asked.body-answer.ensures.0 ∙ ap (pile_answer a.n) (view_from a.n a.bytes.now a.at)
+    ∙ account_judged _ _ _ (some_desks _ one.before.body-length.ensures one.if1.left) (within last).within
 
-pub account-answer-spec : {M : Type 1} → statement M
-account-answer-spec =
+pub account_answer_spec : {M : Type 1} → statement M
+account_answer_spec =
     tie.close
     (tie.spec
     body-length-requires

@@ -5,16 +5,16 @@ use native.Mathlib.Omega.{arith}
 use mathlib.Core.Path.{◌≡◌, refl}
 use Rattle.rules.specs.Loops.{list, flat}
 use Rattle.rules.specs.Pile.{side_of}
-use Rattle.rules.specs.Layout.{deskLimit}
+use Rattle.rules.specs.Layout.{desk_limit}
 use Rattle.rules.specs.Record.{padded}
-use Rattle.rules.proofs.Record.Padded.{padded-next}
-use Rattle.audit.specs.Audits.{rightsIn}
+use Rattle.rules.proofs.Record.Padded.{padded_next}
+use Rattle.audit.specs.Audits.{rights_in}
 use borrow.Author.Rules.{rules}
 use Rattle.audit.proofs.accounts.side_rights.Statement.{statement}
 use Rattle.audit.proofs.accounts.side_rights.Tie as tie
 
 abbrev invariant-loop : tie.invariant-loop
-invariant-loop bytes at n side rights₀ i₀ rights i = (i ≤ n) × (rights ≡ list deskLimit (padded i (rightsIn (side_of side) n at bytes)))
+invariant-loop bytes at n side rights₀ i₀ rights i = (i ≤ n) × (rights ≡ list desk_limit (padded i (rights_in (side_of side) n at bytes)))
 
 abbrev decreases-loop : tie.decreases-loop
 decreases-loop bytes at n side rights₀ i₀ rights i = n - i
@@ -47,13 +47,13 @@ loop-less c = search rules
 loop-again : tie.Need-loop-preserved invariant-loop decreases-loop
 loop-again c =
     let loop = c.before.before.loop in
-    (search rules, rw (loop.invariant.1, c.rights-in.ensures) (padded-next deskLimit loop.i _ (omega (arith, c.before.before.before.before.requires.0))))
+    (search rules, rw (loop.invariant.1, c.rights-in.ensures) (padded_next desk_limit loop.i _ (omega (arith, c.before.before.before.before.requires.0))))
 
 returns : tie.Need-returns invariant-loop decreases-loop
 returns c = let done : c.before.loop.i ≡ c.before.before.before.args.n = omega arith in rw done at c.before.loop.invariant.1
 
-pub side-rights-spec : {M : Type 1} → statement M
-side-rights-spec =
+pub side_rights_spec : {M : Type 1} → statement M
+side_rights_spec =
     tie.close
     (tie.spec
     invariant-loop

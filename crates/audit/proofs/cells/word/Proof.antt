@@ -27,7 +27,7 @@ returns : tie.Need-returns
 returns c =
     let a = c.before.before.before.args in (number_read 4 a.body.now a.at c.get4.ensures, search rules)
 
-pub word-spec : {M : Type 1} → statement M
-word-spec =
+pub word_spec : {M : Type 1} → statement M
+word_spec =
     tie.close
     (tie.spec add-get4 sub-get4 part-get4-start part-get4-end get4-requires cast-result returns)

@@ -6,17 +6,17 @@ use mathlib.Core.Path.{◌≡◌, refl, ap, ap₂, ◌∙◌}
 use Rattle.rules.specs.Loops.{sum}
 use Rattle.rules.specs.Pile as pile
 use Rattle.rules.specs.Pile.{Side, Pile, other, side_of, rights}
-use Rattle.rules.specs.Layout.{earnedColumn}
-use Rattle.rules.proofs.Loops.Arrays.{sum-next}
-use Rattle.layout.specs.Inner.{firstBody}
-use Rattle.audit.proofs.Places.{on-column, on-earned, share-is, give-is, earned-is}
+use Rattle.rules.specs.Layout.{earned_column}
+use Rattle.rules.proofs.Loops.Arrays.{sum_next}
+use Rattle.layout.specs.Inner.{first_body}
+use Rattle.audit.proofs.Places.{on_column, on_earned, share_is, give_is, earned_is}
 use borrow.Author.Rules.{rules}
 use Rattle.audit.proofs.rights.left_of.Statement.{statement}
 use Rattle.audit.proofs.rights.left_of.Tie as tie
 
 abbrev invariant-loop : tie.invariant-loop
 invariant-loop body n i side own credit₀ debit₀ j₀ credit debit j =
-    let p = firstBody n body in
+    let p = first_body n body in
     let s = side_of side in
     (j ≤ n) × (credit ≤ (j + 2) * 4294967296) × (debit ≤ (j + 1) * 4294967296)
     × (credit ≡ p.share s i + p.earned s i + sum j (λ k. p.give s k i)) × (debit ≡ sum j (p.give s i) + p.earned (other s) i)
@@ -24,10 +24,10 @@ invariant-loop body n i side own credit₀ debit₀ j₀ credit debit j =
 abbrev decreases-loop : tie.decreases-loop
 decreases-loop body n i side own credit₀ debit₀ j₀ credit debit j = n - j
 
-other-side : (side : ℕ) → side ≤ 1 → side_of (1 - side) ≡ other (side_of side)
-other-side zero l = refl
-other-side (suc zero) l = refl
-other-side (suc (suc k)) l = absurd (omega arith)
+other_side : (side : ℕ) → side ≤ 1 → side_of (1 - side) ≡ other (side_of side)
+other_side zero l = refl
+other_side (suc zero) l = refl
+other_side (suc (suc k)) l = absurd (omega arith)
 
 -- back to the entry
 abbrev first : tie.After-cell3 invariant-loop decreases-loop → tie.Start invariant-loop decreases-loop
@@ -37,7 +37,7 @@ abbrev start : tie.At-loop invariant-loop decreases-loop → tie.Start invariant
 start at = first at.before
 
 abbrev P : tie.Start invariant-loop decreases-loop → Pile
-P c = firstBody c.args.n c.args.body.now
+P c = first_body c.args.n c.args.body.now
 
 abbrev side : tie.Start invariant-loop decreases-loop → Side
 side c = side_of c.args.side
@@ -49,13 +49,13 @@ side-column-requires : tie.Need-side-column-requires invariant-loop decreases-lo
 side-column-requires c κs = search rules
 
 cell-requires : tie.Need-cell-requires invariant-loop decreases-loop
-cell-requires c κs = let start = c.before.before in on-column start.requires.2 (omega arith) (side start) start.requires.1 c.side-column.ensures
+cell-requires c κs = let start = c.before.before in on_column start.requires.2 (omega arith) (side start) start.requires.1 c.side-column.ensures
 
 earned-column-requires : tie.Need-earned-column-requires invariant-loop decreases-loop
 earned-column-requires c κs = search rules
 
 cell-requires-2 : tie.Need-cell-requires-2 invariant-loop decreases-loop
-cell-requires-2 c κs = let start = c.before.before.before.before in on-earned start.requires.2 (omega arith) (side start) c.earned-column.ensures
+cell-requires-2 c κs = let start = c.before.before.before.before in on_earned start.requires.2 (omega arith) (side start) c.earned-column.ensures
 
 add-credit : tie.Need-overflow-add-credit invariant-loop decreases-loop
 add-credit c = search rules
@@ -69,7 +69,7 @@ earned-column-requires-2 c κs = search rules
 cell-requires-3 : tie.Need-cell-requires-3 invariant-loop decreases-loop
 cell-requires-3 c κs =
     let start = c.before.before.before.before.before.before in
-    on-earned start.requires.2 (omega arith) (side_of (1 - start.args.side)) c.earned-column2.ensures
+    on_earned start.requires.2 (omega arith) (side_of (1 - start.args.side)) c.earned-column2.ensures
 
 loop-holds : tie.Need-loop-init invariant-loop decreases-loop
 unfolding sum
@@ -77,10 +77,10 @@ loop-holds c =
     let start = first c in
     let a = start.args in
     let two = c.before.before in
-    let share = share-is a.n a.body.now (side start) a.i two.before.before.cell.ensures.0 two.before.before.before.side-column.ensures in
-    let earned = earned-is a.n a.body.now (side start) a.i two.cell2.ensures.0 two.before.earned-column.ensures in
-    let spent = earned-is a.n a.body.now (other (side start)) a.i c.cell3.ensures.0
-    (c.before.earned-column2.ensures ∙ ap earnedColumn (other-side a.side start.pre.0)) in
+    let share = share_is a.n a.body.now (side start) a.i two.before.before.cell.ensures.0 two.before.before.before.side-column.ensures in
+    let earned = earned_is a.n a.body.now (side start) a.i two.cell2.ensures.0 two.before.earned-column.ensures in
+    let spent = earned_is a.n a.body.now (other (side start)) a.i c.cell3.ensures.0
+    (c.before.earned-column2.ensures ∙ ap earned_column (other_side a.side start.pre.0)) in
     (search rules, omega arith, omega arith, omega (arith, share, earned), omega (arith, spent))
 
 add-cell : tie.Need-overflow-add-cell invariant-loop decreases-loop
@@ -91,10 +91,10 @@ side-column-requires-2 c κs = search rules
 
 cell-requires-4 : tie.Need-cell-requires-4 invariant-loop decreases-loop
 cell-requires-4 c κs =
-    let start = start c.before.before in on-column start.pre.2 (omega arith) (side start) start.pre.1 c.side-column2.ensures
+    let start = start c.before.before in on_column start.pre.2 (omega arith) (side start) start.pre.1 c.side-column2.ensures
 
 add-credit-2 : tie.Need-overflow-add-credit-2 invariant-loop decreases-loop
-add-credit-2 c = let at = c.before.before.before in omega (arith, at.loop.invariant, c.cell4.ensures.1, (start at).requires.2.desks-most)
+add-credit-2 c = let at = c.before.before.before in omega (arith, at.loop.invariant, c.cell4.ensures.1, (start at).requires.2.desks_most)
 
 side-column-requires-3 : tie.Need-side-column-requires-3 invariant-loop decreases-loop
 side-column-requires-3 c κs = search rules
@@ -103,10 +103,10 @@ cell-requires-5 : tie.Need-cell-requires-5 invariant-loop decreases-loop
 cell-requires-5 c κs =
     let turn = c.before.before.before in
     let start = start turn.before in
-    on-column start.pre.2 (omega arith) (side start) turn.loop-test.true c.side-column3.ensures
+    on_column start.pre.2 (omega arith) (side start) turn.loop-test.true c.side-column3.ensures
 
 add-debit : tie.Need-overflow-add-debit invariant-loop decreases-loop
-add-debit c = let at = c.before.before.before.before.before in omega (arith, at.loop.invariant, c.cell5.ensures.1, (start at).requires.2.desks-most)
+add-debit c = let at = c.before.before.before.before.before in omega (arith, at.loop.invariant, c.cell5.ensures.1, (start at).requires.2.desks_most)
 
 add-j : tie.Need-overflow-add-j invariant-loop decreases-loop
 add-j c = search rules
@@ -123,13 +123,13 @@ loop-again c =
     let j = at.loop.j in
     let p = P start in
     let s = side start in
-    let got = give-is a.n a.body.now s j a.i got-at.cell4.ensures.0 got-at.before.side-column2.ensures in
-    let gave = give-is a.n a.body.now s a.i j c.cell5.ensures.0 c.before.side-column3.ensures in (
+    let got = give_is a.n a.body.now s j a.i got-at.cell4.ensures.0 got-at.before.side-column2.ensures in
+    let gave = give_is a.n a.body.now s a.i j c.cell5.ensures.0 c.before.side-column3.ensures in (
       search rules,
       omega (arith, at.loop.invariant.1, got-at.cell4.ensures.1),
       omega (arith, at.loop.invariant.2, c.cell5.ensures.1),
-      omega (arith, at.loop.invariant.3, got, sum-next j (λ k. p.give s k a.i)),
-      omega (arith, at.loop.invariant.4, gave, sum-next j (p.give s a.i)),
+      omega (arith, at.loop.invariant.3, got, sum_next j (λ k. p.give s k a.i)),
+      omega (arith, at.loop.invariant.4, gave, sum_next j (p.give s a.i)),
     )
 
 less-requires : tie.Need-less-requires invariant-loop decreases-loop
@@ -143,8 +143,8 @@ returns c =
     let inv = rw done at at.loop.invariant in
     c.less.ensures ∙ ap₂ ◌-◌ inv.3 inv.4
 
-pub left-of-spec : {M : Type 1} → statement M
-left-of-spec =
+pub left_of_spec : {M : Type 1} → statement M
+left_of_spec =
     tie.close
     (tie.spec
     invariant-loop

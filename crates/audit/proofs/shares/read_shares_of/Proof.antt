@@ -72,8 +72,8 @@ same-length-10 c = search rules
 returns-5 : tie.Need-returns-5
 returns-5 c = search rules
 
-pub read-shares-of-spec : {M : Type 1} → statement M
-read-shares-of-spec =
+pub read_shares_of_spec : {M : Type 1} → statement M
+read_shares_of_spec =
     tie.close
     (tie.spec
     read-shares-requires

@@ -11,9 +11,9 @@ use Rattle.rules.specs.Loops as loops
 use Rattle.rules.specs.Numbers.{number}
 use Rattle.rules.specs.Pile.{Side, side_of}
 use Rattle.rules.specs.Layout.{column, cell_at}
-use Rattle.rules.proofs.Loops.Arrays.{sum-next, set_next}
+use Rattle.rules.proofs.Loops.Arrays.{sum_next, set_next}
 use Rattle.audit.specs.Inner.{RowAdded}
-use Rattle.audit.proofs.Places.{on-column}
+use Rattle.audit.proofs.Places.{on_column}
 use borrow.Author.Count.{below_more}
 use borrow.Author.Rules.{rules}
 use Rattle.audit.proofs.tallies.add_row.Statement.{statement}
@@ -41,8 +41,8 @@ number_is c =
     let a = (start c.before.before.before).args in
     c.cell.ensures.0 ∙ ap (λ (k : ℕ). number 4 a.body.now (cell_at a.n a.row k)) c.before.side-column.ensures
 
-total-is : (at : tie.At-loop invariant-loop decreases-loop) → get_or at.loop.totals at.loop.j 0 ≡ get_or (start at).args.totals.now at.loop.j 0
-total-is at = at.loop.invariant.4 at.loop.j (le_refl at.loop.j)
+total_is : (at : tie.At-loop invariant-loop decreases-loop) → get_or at.loop.totals at.loop.j 0 ≡ get_or (start at).args.totals.now at.loop.j 0
+total_is at = at.loop.invariant.4 at.loop.j (le_refl at.loop.j)
 
 loop-holds : tie.Need-loop-init invariant-loop decreases-loop
 unfolding loops.sum
@@ -60,7 +60,7 @@ side-column-requires c κs = search rules
 cell-requires : tie.Need-cell-requires invariant-loop decreases-loop
 cell-requires c κs =
     let start = start c.before.before in
-    on-column start.pre.body start.pre.row-most (side_of start.args.side) c.before.loop-test.true c.side-column.ensures
+    on_column start.pre.body start.pre.row_most (side_of start.args.side) c.before.loop-test.true c.side-column.ensures
 
 cast-place : tie.Need-overflow-cast-place invariant-loop decreases-loop
 cast-place c = search rules
@@ -72,18 +72,18 @@ mul-totals : tie.Need-overflow-mul-totals invariant-loop decreases-loop
 mul-totals c = search rules
 
 slice-read-totals : tie.Need-slice-read-totals invariant-loop decreases-loop
-slice-read-totals c = search (rules, (start c.before.before.before.before).pre.body.desks-most)
+slice-read-totals c = search (rules, (start c.before.before.before.before).pre.body.desks_most)
 
 add-totals : tie.Need-overflow-add-totals invariant-loop decreases-loop
 add-totals c =
     let at = c.before.before.before.before in
-    omega (arith, total-is at, (start at).requires.room at.loop.j c.before.before.before.loop-test.true, c.before.cell.ensures.1)
+    omega (arith, total_is at, (start at).requires.room at.loop.j c.before.before.before.loop-test.true, c.before.cell.ensures.1)
 
 mul-totals-2 : tie.Need-overflow-mul-totals-2 invariant-loop decreases-loop
 mul-totals-2 c = search rules
 
 slice-write-totals : tie.Need-slice-write-totals invariant-loop decreases-loop
-slice-write-totals c = search (rules, (start c.before.before.before.before).pre.body.desks-most)
+slice-write-totals c = search (rules, (start c.before.before.before.before).pre.body.desks_most)
 
 add-j : tie.Need-overflow-add-j invariant-loop decreases-loop
 add-j c = search rules
@@ -100,12 +100,12 @@ loop-again c =
     let pre = (start at).requires in
     let row = given a.body.now a.n a.row (side_of a.side) in (
       search rules,
-      ap₂ ◌+◌ inv.1 (number_is c.before) ∙ sym (sum-next _ _),
+      ap₂ ◌+◌ inv.1 (number_is c.before) ∙ sym (sum_next _ _),
       omega (arith, c.before.cell.ensures.1),
       record {
         long = search rules;
-        added = set_next (λ k x. x ≡ get_or a.totals.now k 0 + row k) loop.totals loop.j _ inv.3.added (omega (arith, inv.3.long, pre.body.desks-most))
-            (ap₂ ◌+◌ (total-is at) (number_is c.before));
+        added = set_next (λ k x. x ≡ get_or a.totals.now k 0 + row k) loop.totals loop.j _ inv.3.added (omega (arith, inv.3.long, pre.body.desks_most))
+            (ap₂ ◌+◌ (total_is at) (number_is c.before));
         most = λ k l. below_more _ _ inv.3.most (omega (arith, number_is c.before, c.before.cell.ensures.1)) k l;
       },
       λ k l. get_or-set_other loop.totals loop.j k _ 0 (λ e. omega arith) ∙ inv.4 k (omega arith),
@@ -119,10 +119,10 @@ returns c =
     let at = c.before in
     let done : at.loop.j ≡ (start at).args.n = omega arith in
     let inv = rw done at at.loop.invariant in
-    ((inv.1, omega (arith, inv.2, (start at).requires.body.desks-most)), inv.3)
+    ((inv.1, omega (arith, inv.2, (start at).requires.body.desks_most)), inv.3)
 
-pub add-row-spec : {M : Type 1} → statement M
-add-row-spec =
+pub add_row_spec : {M : Type 1} → statement M
+add_row_spec =
     tie.close
     (tie.spec
     invariant-loop

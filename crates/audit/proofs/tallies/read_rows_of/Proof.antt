@@ -127,8 +127,8 @@ same-length-24 c = search rules
 returns-6 : tie.Need-returns-6
 returns-6 c = search rules
 
-pub read-rows-of-spec : {M : Type 1} → statement M
-read-rows-of-spec =
+pub read_rows_of_spec : {M : Type 1} → statement M
+read_rows_of_spec =
     tie.close
     (tie.spec
     read-rows-requires

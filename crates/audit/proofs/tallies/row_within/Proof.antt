@@ -9,15 +9,15 @@ use lib.Dec.{leb}
 use borrow.Author.Tests.{le-leb, lt-leb}
 use Rattle.rules.specs.Loops.{every}
 use Rattle.rules.specs.Numbers.{number}
-use Rattle.rules.specs.Pile.{tallyLimit}
+use Rattle.rules.specs.Pile.{tally_limit}
 use Rattle.rules.specs.Layout.{columns, cell_at}
-use Rattle.rules.proofs.Loops.Every.{every-next, every-stops}
+use Rattle.rules.proofs.Loops.Every.{every_next, every_stops}
 use borrow.Author.Rules.{rules}
 use Rattle.audit.proofs.tallies.row_within.Statement.{statement}
 use Rattle.audit.proofs.tallies.row_within.Tie as tie
 
 abbrev small : List ℕ → ℕ → ℕ → ℕ → Bool
-small b n row c = leb (number 4 b (cell_at n row c)) tallyLimit
+small b n row c = leb (number 4 b (cell_at n row c)) tally_limit
 
 abbrev invariant-loop : tie.invariant-loop
 invariant-loop body n row all c₀ c = (c ≤ columns n) × (every c (small body n row) ≡ true)
@@ -43,12 +43,12 @@ loop-holds c = (search rules, refl)
 cell-requires : tie.Need-cell-requires invariant-loop decreases-loop
 cell-requires c κs =
     let start = start c.before in
-    record { body = start.pre.0; row-most = start.pre.1; column-below = omega (arith, c.before.before.columns_of.ensures, c.loop-test.true) }
+    record { body = start.pre.0; row_most = start.pre.1; column_below = omega (arith, c.before.before.columns_of.ensures, c.loop-test.true) }
 
 returns : tie.Need-returns invariant-loop decreases-loop
 returns c =
     let at = c.before.before.before in
-    sym (every-stops _ _ at.loop.c (omega (arith, at.before.columns_of.ensures)) (lt-leb _ _ (rw (number_is c.before) at c.if1.true)))
+    sym (every_stops _ _ at.loop.c (omega (arith, at.before.columns_of.ensures)) (lt-leb _ _ (rw (number_is c.before) at c.if1.true)))
 
 add-c : tie.Need-overflow-add-c invariant-loop decreases-loop
 add-c c = search rules
@@ -59,15 +59,15 @@ loop-less c = omega (arith, c.before.before.before.before.columns_of.ensures)
 loop-again : tie.Need-loop-preserved invariant-loop decreases-loop
 loop-again c =
     let at = c.before.before.before in
-    (omega (arith, at.before.columns_of.ensures), every-next _ _ at.loop.invariant.1 (le-leb _ _ (rw (number_is c.before) at c.if1.false)))
+    (omega (arith, at.before.columns_of.ensures), every_next _ _ at.loop.invariant.1 (le-leb _ _ (rw (number_is c.before) at c.if1.false)))
 
 returns-2 : tie.Need-returns-2 invariant-loop decreases-loop
 returns-2 c =
     let done : c.before.loop.c ≡ columns (start c.before).args.n = omega (arith, c.before.before.columns_of.ensures) in
     sym (rw done at c.before.loop.invariant.1)
 
-pub row-within-spec : {M : Type 1} → statement M
-row-within-spec =
+pub row_within_spec : {M : Type 1} → statement M
+row_within_spec =
     tie.close
     (tie.spec
     invariant-loop

@@ -10,15 +10,15 @@ use lib.Dec.{leb}
 use borrow.Author.Tests.{not-true, not-false}
 use Rattle.rules.specs.Loops.{every}
 use Rattle.rules.specs.Numbers.{number}
-use Rattle.rules.specs.Pile.{tallyLimit}
+use Rattle.rules.specs.Pile.{tally_limit}
 use Rattle.rules.specs.Layout.{columns, cell_at}
-use Rattle.rules.proofs.Loops.Every.{every-next, every-stops}
+use Rattle.rules.proofs.Loops.Every.{every_next, every_stops}
 use borrow.Author.Rules.{rules}
 use Rattle.audit.proofs.tallies.rows_within.Statement.{statement}
 use Rattle.audit.proofs.tallies.rows_within.Tie as tie
 
 abbrev small : List ℕ → ℕ → ℕ → Bool
-small b n row = every (columns n) (λ c. leb (number 4 b (cell_at n row c)) tallyLimit)
+small b n row = every (columns n) (λ c. leb (number 4 b (cell_at n row c)) tally_limit)
 
 abbrev invariant-loop : tie.invariant-loop
 invariant-loop body n i₀ i = (i ≤ n) × (every i (λ k. small body n (suc k)) ≡ true)
@@ -50,7 +50,7 @@ row-within-requires c κs = ((start c.before).pre, search rules)
 returns : tie.Need-returns invariant-loop decreases-loop
 returns c =
     let at = c.before.before.before in
-    sym (every-stops _ _ at.loop.i (omega arith) (sym (row_is c.before) ∙ not-true _ c.if1.true))
+    sym (every_stops _ _ at.loop.i (omega arith) (sym (row_is c.before) ∙ not-true _ c.if1.true))
 
 add-i : tie.Need-overflow-add-i invariant-loop decreases-loop
 add-i c = search rules
@@ -61,15 +61,15 @@ loop-less c = search rules
 loop-again : tie.Need-loop-preserved invariant-loop decreases-loop
 loop-again c =
     let at = c.before.before.before in
-    (search rules, every-next _ _ at.loop.invariant.1 (sym (row_is c.before) ∙ not-false _ c.if1.false))
+    (search rules, every_next _ _ at.loop.invariant.1 (sym (row_is c.before) ∙ not-false _ c.if1.false))
 
 returns-2 : tie.Need-returns-2 invariant-loop decreases-loop
 returns-2 c =
     let done : c.before.loop.i ≡ (start c.before).args.n = omega arith in
     sym (rw done at c.before.loop.invariant.1)
 
-pub rows-within-spec : {M : Type 1} → statement M
-rows-within-spec =
+pub rows_within_spec : {M : Type 1} → statement M
+rows_within_spec =
     tie.close
     (tie.spec
     invariant-loop

@@ -9,23 +9,23 @@ use lib.ListN.{length}
 use lib.Dec.{eqb}
 use borrow.Author.Tests.{eq-eqb, ne_eqb}
 use Rattle.rules.specs.Loops.{every}
-use Rattle.rules.specs.Layout.{bodyAt, pileNumber, position}
-use Rattle.rules.specs.Book.{contentsSound}
-use Rattle.rules.proofs.Loops.Logic.{and_both, and-left-fails, and-right-fails}
-use Rattle.rules.proofs.Loops.Every.{every-next, every-stops, every-cong}
-use Rattle.rules.proofs.File.BodySize.{size-in-range}
-use Rattle.rules.proofs.File.Positions.{body-start}
-use Rattle.rules.proofs.File.Risen.{Risen, none-risen, next-risen, not-risen, all-risen}
-use Rattle.layout.specs.Positions.{asHead}
-use Rattle.layout.proofs.Positions.{size-most, position-most, position-is}
-use Rattle.layout.proofs.Entries.{entry-says-number, entry-says-position}
+use Rattle.rules.specs.Layout.{body_at, pile_number, position}
+use Rattle.rules.specs.Book.{contents_sound}
+use Rattle.rules.proofs.Loops.Logic.{and_both, and_left_fails, and_right_fails}
+use Rattle.rules.proofs.Loops.Every.{every_next, every_stops, every_cong}
+use Rattle.rules.proofs.File.BodySize.{size_in_range}
+use Rattle.rules.proofs.File.Positions.{body_start_lem}
+use Rattle.rules.proofs.File.Risen.{Risen, none_risen, next_risen, not_risen, all_risen}
+use Rattle.layout.specs.Positions.{as_head}
+use Rattle.layout.proofs.Positions.{size_most, position_most, position_is}
+use Rattle.layout.proofs.Entries.{entry_says_number, entry_says_position}
 use borrow.Author.Rules.{rules}
 use Rattle.book.proofs.contents.contents_sound.Statement.{statement}
 use Rattle.book.proofs.contents.contents_sound.Tie as tie
 
 abbrev invariant-loop : tie.invariant-loop
 invariant-loop book size expected₀ last₀ p k₀ expected last k =
-    Risen p (pileNumber book) k last × (every k (λ j. eqb (position book j) (expected₀ + j * size)) ≡ true) × (expected ≡ expected₀ + k * size)
+    Risen p (pile_number book) k last × (every k (λ j. eqb (position book j) (expected₀ + j * size)) ≡ true) × (expected ≡ expected₀ + k * size)
 
 abbrev decreases-loop : tie.decreases-loop
 decreases-loop book size expected₀ last₀ p k₀ expected last k = p - k
@@ -40,28 +40,28 @@ within c =
     omega (arith, c.entry_at.ensures, (start at).requires.entries.within at.loop.k c.before.loop-test.true)
 
 -- where the loop expects a body is where it starts
-expects : (c : tie.At-loop invariant-loop decreases-loop) (j : ℕ) → c.before.Front-length.result + j * c.before.before.body-length.result ≡ bodyAt (asHead (start c).args.head) j
+expects : (c : tie.At-loop invariant-loop decreases-loop) (j : ℕ) → c.before.Front-length.result + j * c.before.before.body-length.result ≡ body_at (as_head (start c).args.head) j
 expects c j =
     let s = start c in
     ap₂ (λ (front size : ℕ). front + j * size) c.before.Front-length.ensures
-    (c.before.before.body-length.ensures ∙ size-in-range _ s.pre.sizes.desks-least s.pre.sizes.desks-most)
-    ∙ sym (body-start (asHead s.args.head) j)
+    (c.before.before.body-length.ensures ∙ size_in_range _ s.pre.sizes.desks_least s.pre.sizes.desks_most)
+    ∙ sym (body_start_lem (as_head s.args.head) j)
 
 -- the number and the position of the entry
 number_is : (c : tie.After-entry-number invariant-loop decreases-loop) → let at = c.before.before.before.before in
-    c.entry-number.result ≡ pileNumber (start at).args.book.now at.loop.k
+    c.entry-number.result ≡ pile_number (start at).args.book.now at.loop.k
 number_is c =
     let at = c.before.before.before.before in
     let from = c.before.before.entry_at.result in
-    c.entry-number.ensures ∙ entry-says-number (start at).args.book.now at.loop.k (from + 6 - from) c.before.before.entry_at.ensures (omega arith)
+    c.entry-number.ensures ∙ entry_says_number (start at).args.book.now at.loop.k (from + 6 - from) c.before.before.entry_at.ensures (omega arith)
 
-position_at : (c : tie.After-entry-position invariant-loop decreases-loop) → let at = c.before.before.before.before.before.before in
+position_at_lem : (c : tie.After-entry-position invariant-loop decreases-loop) → let at = c.before.before.before.before.before.before in
     c.entry-position.result ≡ position (start at).args.book.now at.loop.k
-position_at c =
+position_at_lem c =
     let entry = c.before.before.before in
     let at = entry.before.before.before in
     let from = entry.before.entry_at.result in
-    c.entry-position.ensures ∙ entry-says-position (start at).args.book.now at.loop.k (from + 6 - from) entry.before.entry_at.ensures (omega arith)
+    c.entry-position.ensures ∙ entry_says_position (start at).args.book.now at.loop.k (from + 6 - from) entry.before.entry_at.ensures (omega arith)
 
 body-length-requires : tie.Need-body-length-requires invariant-loop decreases-loop
 body-length-requires c κs = search rules
@@ -71,7 +71,7 @@ front-length-requires c κs = search rules
 
 loop-holds : tie.Need-loop-init invariant-loop decreases-loop
 unfolding every
-loop-holds c = (none-risen, refl, omega arith)
+loop-holds c = (none_risen, refl, omega arith)
 
 entry-at-requires : tie.Need-entry-at-requires invariant-loop decreases-loop
 entry-at-requires c κs = search rules
@@ -92,10 +92,10 @@ entry-number-requires : tie.Need-entry-number-requires invariant-loop decreases-
 entry-number-requires c κs = search rules
 
 returns : tie.Need-returns invariant-loop decreases-loop
-unfolding contentsSound
+unfolding contents_sound
 returns c =
     let now = c.before.before.before.before in
-    sym (and-left-fails (not-risen now.before.loop.invariant.0 now.loop-test.true (number_is c.before) (inl c.if1.true)) _)
+    sym (and_left_fails (not_risen now.before.loop.invariant.0 now.loop-test.true (number_is c.before) (inl c.if1.true)) _)
 
 entry-position-requires : tie.Need-entry-position-requires invariant-loop decreases-loop
 entry-position-requires c κs = search rules
@@ -104,11 +104,11 @@ cast-if2 : tie.Need-overflow-cast-if2 invariant-loop decreases-loop
 cast-if2 c = search rules
 
 returns-2 : tie.Need-returns-2 invariant-loop decreases-loop
-unfolding contentsSound
+unfolding contents_sound
 returns-2 c =
     let at = c.before.before.before.before.before.before.before in
-    sym (and-right-fails _ (every-stops _ _ at.loop.k (search rules)
-    (ne_eqb _ _ (λ e. c.if2.true (position_at c.before ∙ e ∙ sym (at.loop.invariant.2 ∙ expects at at.loop.k))))))
+    sym (and_right_fails _ (every_stops _ _ at.loop.k (search rules)
+    (ne_eqb _ _ (λ e. c.if2.true (position_at_lem c.before ∙ e ∙ sym (at.loop.invariant.2 ∙ expects at at.loop.k))))))
 
 add-expected : tie.Need-overflow-add-expected invariant-loop decreases-loop
 add-expected c =
@@ -118,9 +118,9 @@ add-expected c =
       arith,
       at.loop.invariant.2,
       expects at at.loop.k,
-      position-is (asHead s.args.head) at.loop.k s.pre.sizes.desks-least s.pre.sizes.desks-most,
-      position-most (asHead s.args.head) at.loop.k (omega arith) (omega arith),
-      size-most s.args.head.desks,
+      position_is (as_head s.args.head) at.loop.k s.pre.sizes.desks_least s.pre.sizes.desks_most,
+      position_most (as_head s.args.head) at.loop.k (omega arith) (omega arith),
+      size_most s.args.head.desks,
       at.before.before.body-length.ensures,
     )
 
@@ -136,21 +136,21 @@ loop-again c =
     let two = four.before.before in
     let now = two.before.before.before in
     let inv = now.before.loop.invariant in (
-      next-risen inv.0 now.loop-test.true (number_is two) four.before.if1.false (omega (arith, two.entry-number.type-inv)),
-      every-next _ _ inv.1 (eq-eqb _ _ (sym (position_at four) ∙ c.if2.false ∙ inv.2)),
+      next_risen inv.0 now.loop-test.true (number_is two) four.before.if1.false (omega (arith, two.entry-number.type-inv)),
+      every_next _ _ inv.1 (eq-eqb _ _ (sym (position_at_lem four) ∙ c.if2.false ∙ inv.2)),
       omega arith,
     )
 
 returns-3 : tie.Need-returns-3 invariant-loop decreases-loop
-unfolding contentsSound
+unfolding contents_sound
 returns-3 c =
     let at = c.before in
     let done : at.loop.k ≡ (start at).args.head.piles = omega arith in
-    sym (and_both (all-risen at.loop.invariant.0 (omega arith))
-    (rw (done, every-cong (start at).args.head.piles (λ j _. ap (eqb (position _ j)) (expects at j))) at at.loop.invariant.1))
+    sym (and_both (all_risen at.loop.invariant.0 (omega arith))
+    (rw (done, every_cong (start at).args.head.piles (λ j _. ap (eqb (position _ j)) (expects at j))) at at.loop.invariant.1))
 
-pub contents-sound-spec : {M : Type 1} → statement M
-contents-sound-spec =
+pub contents_sound_spec : {M : Type 1} → statement M
+contents_sound_spec =
     tie.close
     (tie.spec
     invariant-loop

@@ -7,15 +7,15 @@ use lib.ListN.{length}
 use lib.Dec.{eqb}
 use borrow.Author.Tests.{eq-eqb, ne_eqb}
 use Rattle.rules.specs.Loops.{index}
-use Rattle.rules.specs.Layout.{pileNumber}
-use Rattle.rules.proofs.Loops.Every.{index-next, index-stops}
-use Rattle.layout.proofs.Entries.{entry-says-number}
+use Rattle.rules.specs.Layout.{pile_number}
+use Rattle.rules.proofs.Loops.Every.{index_next, index_stops}
+use Rattle.layout.proofs.Entries.{entry_says_number}
 use borrow.Author.Rules.{rules}
 use Rattle.book.proofs.contents.place_of.Statement.{statement}
 use Rattle.book.proofs.contents.place_of.Tie as tie
 
 abbrev invariant-loop : tie.invariant-loop
-invariant-loop book p number k₀ k = (k ≤ p) × (index k (λ j. eqb (pileNumber book j) number) ≡ k)
+invariant-loop book p number k₀ k = (k ≤ p) × (index k (λ j. eqb (pile_number book j) number) ≡ k)
 
 abbrev decreases-loop : tie.decreases-loop
 decreases-loop book p number k₀ k = p - k
@@ -28,11 +28,11 @@ within c =
 
 -- the number of the entry
 number_is : (c : tie.After-entry-number invariant-loop decreases-loop) → let at = c.before.before.before.before in
-    c.entry-number.result ≡ pileNumber at.before.before.args.book.now at.loop.k
+    c.entry-number.result ≡ pile_number at.before.before.args.book.now at.loop.k
 number_is c =
     let at = c.before.before.before.before in
     let from = c.before.before.entry_at.result in
-    c.entry-number.ensures ∙ entry-says-number at.before.before.args.book.now at.loop.k (from + 6 - from) c.before.before.entry_at.ensures (omega arith)
+    c.entry-number.ensures ∙ entry_says_number at.before.before.args.book.now at.loop.k (from + 6 - from) c.before.before.entry_at.ensures (omega arith)
 
 loop-holds : tie.Need-loop-init invariant-loop decreases-loop
 unfolding index
@@ -59,7 +59,7 @@ entry-number-requires c κs = search rules
 returns : tie.Need-returns invariant-loop decreases-loop
 returns c =
     let loop = c.before.before.before.before.before.loop in
-    sym (index-stops _ _ loop.k (search rules) loop.invariant.1 (eq-eqb _ _ (sym (number_is c.before) ∙ c.if1.true)))
+    sym (index_stops _ _ loop.k (search rules) loop.invariant.1 (eq-eqb _ _ (sym (number_is c.before) ∙ c.if1.true)))
 
 add-k : tie.Need-overflow-add-k invariant-loop decreases-loop
 add-k c = search rules
@@ -69,15 +69,15 @@ loop-less c = search rules
 
 loop-again : tie.Need-loop-preserved invariant-loop decreases-loop
 loop-again c =
-    (search rules, index-next _ _ c.before.before.before.before.before.loop.invariant.1 (ne_eqb _ _ (λ e. c.if1.false (number_is c.before ∙ e))))
+    (search rules, index_next _ _ c.before.before.before.before.before.loop.invariant.1 (ne_eqb _ _ (λ e. c.if1.false (number_is c.before ∙ e))))
 
 returns-2 : tie.Need-returns-2 invariant-loop decreases-loop
 returns-2 c =
     let done : c.before.loop.k ≡ c.before.before.before.args.p = omega arith in
     sym (rw done at c.before.loop.invariant.1)
 
-pub place-of-spec : {M : Type 1} → statement M
-place-of-spec =
+pub place_of_spec : {M : Type 1} → statement M
+place_of_spec =
     tie.close
     (tie.spec
     invariant-loop

@@ -5,10 +5,10 @@ use mathlib.Core.Path.{◌≡◌, ap, ◌∙◌}
 use Rattle.rules.specs.Refusals.{value}
 use Rattle.rules.specs.Pile.{side_of}
 use Rattle.rules.specs.Layout.{desks}
-use Rattle.rules.proofs.Loops.Refusals.{reply-refused, reply-value}
-use Rattle.audit.specs.Audits.{rightsIn}
+use Rattle.rules.proofs.Loops.Refusals.{reply_refused, reply_value}
+use Rattle.audit.specs.Audits.{rights_in}
 use Rattle.book.specs.Inner.{SoughtBody}
-use Rattle.book.proofs.Bodies.{rights-read, rights-small}
+use Rattle.book.proofs.Bodies.{rights_read, rights_small}
 use borrow.Author.Rules.{rules}
 use Rattle.book.proofs.queries.rights_of.Statement.{statement}
 use Rattle.book.proofs.queries.rights_of.Tie as tie
@@ -21,12 +21,12 @@ sought : (c : tie.Else1) → SoughtBody (start c).args.desk (start c).args.book.
 sought c = (start c).requires c.if1.false
 
 read : (c : tie.After-rights-in) → let a = (start c.before.before).args in
-    c.rights-in.result ≡ rightsIn (side_of a.side) (desks a.book.now) a.found.start a.book.now a.desk
+    c.rights-in.result ≡ rights_in (side_of a.side) (desks a.book.now) a.found.start a.book.now a.desk
 read c = let a = (start c.before.before).args in
-    c.rights-in.ensures ∙ ap (λ (n : ℕ). rightsIn (side_of a.side) n a.found.start a.book.now a.desk) (sought c.before.before).count
+    c.rights-in.ensures ∙ ap (λ (n : ℕ). rights_in (side_of a.side) n a.found.start a.book.now a.desk) (sought c.before.before).count
 
 returns : tie.Need-returns
-returns c = reply-refused _ _ c.if1.true
+returns c = reply_refused _ _ c.if1.true
 
 cast-rights-in : tie.Need-overflow-cast-rights-in
 cast-rights-in c = search rules
@@ -35,10 +35,10 @@ rights-in-requires : tie.Need-rights-in-requires
 rights-in-requires c κs = search rules
 
 cast-t9 : tie.Need-overflow-cast-t9
-cast-t9 c = search (rules, rights-small _ _ (sought c.before.before).sound _ (read c))
+cast-t9 c = search (rules, rights_small _ _ (sought c.before.before).sound _ (read c))
 
 returns-2 : tie.Need-returns-2
-returns-2 c = ap value (rights-read _ _ (sought c.before.before).sound _ (read c)) ∙ reply-value _ _ c.before.before.if1.false
+returns-2 c = ap value (rights_read _ _ (sought c.before.before).sound _ (read c)) ∙ reply_value _ _ c.before.before.if1.false
 
-pub rights-of-spec : {M : Type 1} → statement M
-rights-of-spec = tie.close (tie.spec returns cast-rights-in rights-in-requires cast-t9 returns-2)
+pub rights_of_spec : {M : Type 1} → statement M
+rights_of_spec = tie.close (tie.spec returns cast-rights-in rights-in-requires cast-t9 returns-2)

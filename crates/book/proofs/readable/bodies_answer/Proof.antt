@@ -3,13 +3,13 @@
 use Prim.Native.Nat.{ℕ}
 use mathlib.Core.Path.{ap, ◌∙◌, sym}
 use lib.ListN.{length}
-use Rattle.rules.specs.Pile.{pileAnswer}
-use Rattle.rules.specs.Layout.{frontLength, bodyView}
-use Rattle.rules.proofs.Loops.Refusals.{orElse-passes, first_cong}
-use Rattle.rules.proofs.File.Positions.{body-start, book-end}
-use Rattle.layout.specs.Positions.{asHead}
-use Rattle.audit.specs.Audits.{bodiesAnswer}
-use Rattle.audit.proofs.Audits.{shape-fits}
+use Rattle.rules.specs.Pile.{pile_answer}
+use Rattle.rules.specs.Layout.{front_length, body_view}
+use Rattle.rules.proofs.Loops.Refusals.{or_else_passes, first_cong}
+use Rattle.rules.proofs.File.Positions.{body_start_lem, book_end}
+use Rattle.layout.specs.Positions.{as_head}
+use Rattle.audit.specs.Audits.{bodies_answer}
+use Rattle.audit.proofs.Audits.{shape_fits}
 use borrow.Author.Rules.{rules}
 use Rattle.book.proofs.readable.bodies_answer.Statement.{statement}
 use Rattle.book.proofs.readable.bodies_answer.Tie as tie
@@ -24,16 +24,16 @@ check-bodies-requires : tie.Need-check-bodies-requires
 check-bodies-requires c κs = search rules
 
 returns : tie.Need-returns
-unfolding bodiesAnswer
+unfolding bodies_answer
 returns c =
     let at = c.before.before.before.before in
     let a = at.args in
-    let h = asHead a.head in
+    let h = as_head a.head in
     let sizes = at.requires.sizes in
-    c.check-bodies.ensures ∙ ap (λ (from : ℕ). bodiesAnswer a.head.desks a.head.piles from a.book.now) c.before.before.Front-length.ensures
-    ∙ orElse-passes (sym (shape-fits a.head.desks a.head.piles (frontLength h) (length a.book.now) (sizes.desks-least, sizes.desks-most) sizes.piles-most (at.requires.sized ∙ book-end h))) _
-    ∙ first_cong a.head.piles (λ k _. ap (λ (from : ℕ). pileAnswer a.head.desks (bodyView a.head.desks a.book.now from)) (sym (body-start h k)))
+    c.check-bodies.ensures ∙ ap (λ (from : ℕ). bodies_answer a.head.desks a.head.piles from a.book.now) c.before.before.Front-length.ensures
+    ∙ or_else_passes (sym (shape_fits a.head.desks a.head.piles (front_length h) (length a.book.now) (sizes.desks_least, sizes.desks_most) sizes.piles_most (at.requires.sized ∙ book_end h))) _
+    ∙ first_cong a.head.piles (λ k _. ap (λ (from : ℕ). pile_answer a.head.desks (body_view a.head.desks a.book.now from)) (sym (body_start_lem h k)))
 
-pub bodies-answer-spec : {M : Type 1} → statement M
-bodies-answer-spec =
+pub bodies_answer_spec : {M : Type 1} → statement M
+bodies_answer_spec =
     tie.close (tie.spec front-length-requires cast-check-bodies check-bodies-requires returns)

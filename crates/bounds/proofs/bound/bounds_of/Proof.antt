@@ -6,17 +6,17 @@ use mathlib.Core.Path.{◌≡◌, refl}
 use lib.ListN.{get_or}
 use borrow.Author.Rules.{rules}
 use Rattle.rules.specs.Loops.{list, flat}
-use Rattle.rules.specs.Layout.{deskLimit}
+use Rattle.rules.specs.Layout.{desk_limit}
 use Rattle.rules.specs.Record.{padded}
 use Rattle.rules.specs.Pile.{side_of}
-use Rattle.rules.proofs.Record.Padded.{padded-next}
+use Rattle.rules.proofs.Record.Padded.{padded_next}
 use Rattle.bounds.specs.Inner.{kept}
 use Rattle.bounds.proofs.bound.bounds_of.Statement.{statement}
 use Rattle.bounds.proofs.bound.bounds_of.Tie as tie
 
 abbrev invariant-loop : tie.invariant-loop
 invariant-loop side floor top n rights bounds₀ i₀ bounds i =
-    (i ≤ n) × (bounds ≡ list deskLimit (padded i (λ k. kept (side_of side) floor top (get_or rights k 0))))
+    (i ≤ n) × (bounds ≡ list desk_limit (padded i (λ k. kept (side_of side) floor top (get_or rights k 0))))
 
 abbrev decreases-loop : tie.decreases-loop
 decreases-loop side floor top n rights bounds₀ i₀ bounds i = n - i
@@ -52,13 +52,13 @@ loop-less c = search rules
 loop-again : tie.Need-loop-preserved invariant-loop decreases-loop
 loop-again c =
     let loop = c.before.before.loop in
-    (search rules, rw (c.bound_of.ensures, loop.invariant.1) (padded-next deskLimit loop.i _ (omega (arith, c.before.before.before.requires.0))))
+    (search rules, rw (c.bound_of.ensures, loop.invariant.1) (padded_next desk_limit loop.i _ (omega (arith, c.before.before.before.requires.0))))
 
 returns : tie.Need-returns invariant-loop decreases-loop
 returns c = let done : c.before.loop.i ≡ c.before.before.args.n = omega arith in rw done at c.before.loop.invariant.1
 
-pub bounds-of-spec : {M : Type 1} → statement M
-bounds-of-spec =
+pub bounds_of_spec : {M : Type 1} → statement M
+bounds_of_spec =
     tie.close
     (tie.spec
     invariant-loop

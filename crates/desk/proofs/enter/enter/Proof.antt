@@ -6,11 +6,11 @@ use native.Mathlib.Omega.{arith}
 use mathlib.Core.Path.{◌≡◌, ap, sym, ◌∙◌}
 use Rattle.rules.specs.Acts.{Act}
 use Rattle.rules.specs.Layout.{cell_at}
-use Rattle.rules.specs.Book.{actAnswer}
+use Rattle.rules.specs.Book.{act_answer}
 use Rattle.book.specs.Inner.{SoughtBody}
-use Rattle.book.proofs.Bodies.{sought-sound}
+use Rattle.book.proofs.Bodies.{sought_sound}
 use Rattle.desk.specs.Kinds.{kind_of, act}
-use Rattle.desk.proofs.Entered.{cell-most, entry-refused, own-answer, lines-answer, entered}
+use Rattle.desk.proofs.Entered.{cell_most, entry_refused, own_answer, lines_answer, entered}
 use borrow.Author.Rules.{rules}
 use Rattle.desk.proofs.enter.enter.Statement.{statement}
 use Rattle.desk.proofs.enter.enter.Tie as tie
@@ -24,7 +24,7 @@ asked c = let a = (start c).args in act (kind_of a.kind) a.number a.amount
 
 -- past the first test the pile is found, in a book that has the desk
 found : (c : tie.Else1) → let a = (start c.before).args in SoughtBody a.desk a.book.now c.before.seek.result.desks c.before.seek.result.start
-found c = sought-sound _ _ _ c.before.seek.ensures c.if1.false
+found c = sought_sound _ _ _ c.before.seek.ensures c.if1.false
 
 -- back from the act's line
 abbrev read : tie.After-act-refusal → tie.After-get4
@@ -43,11 +43,11 @@ placed : (c : tie.After-cell-at) → let first = c.before.before.before.before i
 placed c = ap (λ (x : ℕ). c.before.before.before.before.seek.result.start + x) c.Cell-at.ensures
 
 -- what the line answers is the act's answer
-answered : (c : tie.After-act-refusal) → let a = (start (one c).before).args in c.act-refusal.result ≡ actAnswer a.desk (asked (one c).before) a.book.now
+answered : (c : tie.After-act-refusal) → let a = (start (one c).before).args in c.act-refusal.result ≡ act_answer a.desk (asked (one c).before) a.book.now
 answered c =
     let first = (one c).before in
     let rights = c.before.before in
-    lines-answer _ (asked first) _ first.seek.ensures (one c).if1.false (celled c).before.column.ensures (placed (celled c)) (read c).get4.ensures
+    lines_answer _ (asked first) _ first.seek.ensures (one c).if1.false (celled c).before.column.ensures (placed (celled c)) (read c).get4.ensures
     c.before.receiver-wrong-for.ensures rights.before.side-of.ensures rights.rights-in.ensures c.act-refusal.ensures.0
 
 seek-requires : tie.Need-seek-requires
@@ -57,13 +57,13 @@ same_length : tie.Need-same-length
 same_length c = search rules
 
 returns : tie.Need-returns
-returns c = entry-refused _ (asked c.before) _ (own-answer _ (asked c.before) _ c.before.seek.ensures c.if1.true) c.if1.true
+returns c = entry_refused _ (asked c.before) _ (own_answer _ (asked c.before) _ c.before.seek.ensures c.if1.true) c.if1.true
 
 cast-start : tie.Need-overflow-cast-start
 cast-start c = search rules
 
 add-cell-at : tie.Need-overflow-add-cell-at
-add-cell-at c = let body = (found c.before).sound in search (rules, body.desk, body.body.desks-most)
+add-cell-at c = let body = (found c.before).sound in search (rules, body.desk, body.body.desks_most)
 
 column-requires : tie.Need-column-requires
 column-requires c κs = search rules
@@ -74,8 +74,8 @@ cell-at-requires c κs = search rules
 add_at : tie.Need-overflow-add-at
 add_at c =
     let one = c.before.before.before in
-    let row : (start one.before).args.desk + 1 ≤ 255 = omega (arith, (found one).sound.desk, (found one).sound.body.desks-most) in
-    search (rules, c.Cell-at.ensures, cell-most one.before.seek.result.desks _ c.before.column.result (omega arith) row (omega arith))
+    let row : (start one.before).args.desk + 1 ≤ 255 = omega (arith, (found one).sound.desk, (found one).sound.body.desks_most) in
+    search (rules, c.Cell-at.ensures, cell_most one.before.seek.result.desks _ c.before.column.result (omega arith) row (omega arith))
 
 get4-requires : tie.Need-get4-requires
 get4-requires c κs = search rules
@@ -96,7 +96,7 @@ same-length-2 : tie.Need-same-length-2
 same-length-2 c = search rules
 
 returns-2 : tie.Need-returns-2
-returns-2 c = entry-refused _ (asked (one c.before).before) _ (answered c.before) c.if2.true
+returns-2 c = entry_refused _ (asked (one c.before).before) _ (answered c.before) c.if2.true
 
 add-put4 : tie.Need-overflow-add-put4
 add-put4 c = search (rules, c.before.before.act-refusal.ensures.1 c.before.if2.false)

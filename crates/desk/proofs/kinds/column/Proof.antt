@@ -40,8 +40,8 @@ returns-3 c = rw c.before.before.kind.given.1 c.side-column.ensures
 returns-4 : tie.Need-returns-4
 returns-4 c = rw c.before.before.kind2.given.1 c.side-column2.ensures
 
-pub column-spec : {M : Type 1} → statement M
-column-spec =
+pub column_spec : {M : Type 1} → statement M
+column_spec =
     tie.close
     (tie.spec
     enum_told

@@ -34,8 +34,8 @@ returns-3 c = rw c.before.before.kind.given.1 c.receiver-wrong.ensures
 returns-4 : tie.Need-returns-4
 returns-4 c = rw c.before.before.kind2.given.1 c.receiver-wrong2.ensures
 
-pub receiver-wrong-for-spec : {M : Type 1} → statement M
-receiver-wrong-for-spec =
+pub receiver_wrong_for_spec : {M : Type 1} → statement M
+receiver_wrong_for_spec =
     tie.close
     (tie.spec
     enum_told

@@ -3,7 +3,7 @@
 use mathlib.Core.Path.{ap, ◌∙◌}
 use native.Mathlib.Omega.{arith}
 use Rattle.rules.specs.Numbers.{number}
-use Rattle.rules.specs.Layout.{pileNumber}
+use Rattle.rules.specs.Layout.{pile_number}
 use borrow.Author.Rules.{rules}
 use Rattle.layout.proofs.contents.pile_number.Statement.{statement}
 use Rattle.layout.proofs.contents.pile_number.Tie as tie
@@ -15,8 +15,8 @@ get2-requires : tie.Need-get2-requires
 get2-requires c κs = search rules
 
 returns : tie.Need-returns
-unfolding pileNumber
+unfolding pile_number
 returns c = c.get2.ensures ∙ ap (number 2 _) (omega arith)
 
-pub pile-number-spec : {M : Type 1} → statement M
-pile-number-spec = tie.close (tie.spec entry-at-requires get2-requires returns)
+pub pile_number_spec : {M : Type 1} → statement M
+pile_number_spec = tie.close (tie.spec entry-at-requires get2-requires returns)

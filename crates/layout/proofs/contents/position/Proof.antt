@@ -21,5 +21,5 @@ returns : tie.Need-returns
 unfolding position
 returns c = c.get4.ensures ∙ ap (number 4 _) (omega arith)
 
-pub position-spec : {M : Type 1} → statement M
-position-spec = tie.close (tie.spec entry-at-requires add-get4 get4-requires returns)
+pub position_spec : {M : Type 1} → statement M
+position_spec = tie.close (tie.spec entry-at-requires add-get4 get4-requires returns)

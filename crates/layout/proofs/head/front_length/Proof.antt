@@ -1,7 +1,7 @@
 -- `front_length` adds a head and an entry for each pile.
 -- Assumes nothing.
 use native.Mathlib.Omega.{arith}
-use Rattle.rules.specs.Layout.{frontLength}
+use Rattle.rules.specs.Layout.{front_length}
 use borrow.Author.Rules.{rules}
 use Rattle.layout.proofs.head.front_length.Statement.{statement}
 use Rattle.layout.proofs.head.front_length.Tie as tie
@@ -16,8 +16,8 @@ add-result : tie.Need-overflow-add-result
 add-result c = search rules
 
 returns : tie.Need-returns
-unfolding frontLength
+unfolding front_length
 returns c = omega arith
 
-pub front-length-spec : {M : Type 1} → statement M
-front-length-spec = tie.close (tie.spec cast-result mul-result add-result returns)
+pub front_length_spec : {M : Type 1} → statement M
+front_length_spec = tie.close (tie.spec cast-result mul-result add-result returns)

@@ -1,13 +1,13 @@
 -- `head_of` reads the four bytes where they are there.
 -- Assumes nothing.
 use borrow.Author.Tests.{lt-ltb, le-ltb}
-use Rattle.layout.specs.Positions.{headIn}
+use Rattle.layout.specs.Positions.{head_in}
 use borrow.Author.Rules.{rules}
 use Rattle.layout.proofs.head.head_of.Statement.{statement}
 use Rattle.layout.proofs.head.head_of.Tie as tie
 
 returns : tie.Need-returns
-unfolding headIn
+unfolding head_in
 returns c = rw (lt-ltb _ _ c.if1.true)
 
 shared-slice-read-t5 : tie.Need-shared-slice-read-t5
@@ -23,11 +23,11 @@ shared-slice-read-t11 : tie.Need-shared-slice-read-t11
 shared-slice-read-t11 c = search rules
 
 returns-2 : tie.Need-returns-2
-unfolding headIn
+unfolding head_in
 returns-2 c = rw (le-ltb _ _ c.before.before.before.before.if1.false)
 
-pub head-of-spec : {M : Type 1} → statement M
-head-of-spec =
+pub head_of_spec : {M : Type 1} → statement M
+head_of_spec =
     tie.close
     (tie.spec
     returns

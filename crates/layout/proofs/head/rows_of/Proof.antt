@@ -26,5 +26,5 @@ mul-result c =
 returns : tie.Need-returns
 returns c = search rules
 
-pub rows-of-spec : {M : Type 1} → statement M
-rows-of-spec = tie.close (tie.spec cast-result cast-result-2 add-result mul-result returns)
+pub rows_of_spec : {M : Type 1} → statement M
+rows_of_spec = tie.close (tie.spec cast-result cast-result-2 add-result mul-result returns)

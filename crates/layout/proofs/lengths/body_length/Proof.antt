@@ -12,10 +12,10 @@ use borrow.Author.Rules.{rules}
 use borrow.Author.Tests.{eqb-true}
 use borrow.Table.Row.{get}
 use Rattle.rules.specs.Loops.{◌and◌, every}
-use Rattle.rules.specs.Layout.{deskLimit, bodyLength}
-use Rattle.rules.proofs.Loops.Every.{every-at}
-use Rattle.rules.proofs.File.BodySize.{size-in-range, size-out-of-range}
-use Rattle.layout.proofs.Short.{body-most}
+use Rattle.rules.specs.Layout.{desk_limit, body_length}
+use Rattle.rules.proofs.Loops.Every.{every_at}
+use Rattle.rules.proofs.File.BodySize.{size_in_range, size_out_of_range}
+use Rattle.layout.proofs.Short.{body_most}
 use Rattle.layout.proofs.lengths.body_length.Statement.{statement}
 use Rattle.layout.proofs.lengths.body_length.Tie as tie
 use Rattle.layout.proofs.lengths.body_length.Reads as reads
@@ -26,23 +26,23 @@ abbrev table : tie.Else2 → List ℕ
 table c = get 4 (lts.T24).locals (lts.m21 reads.Pre reads.Post c.before)
 
 -- the entry at place k is the length of a body of k + 1 desks
-all_right : (c : tie.Else2) → every deskLimit (λ k. eqb (get_or (table c) k 0) (bodyLength (k + 1))) ≡ true
-unfolding bodyLength every ◌and◌
+all_right : (c : tie.Else2) → every desk_limit (λ k. eqb (get_or (table c) k 0) (body_length (k + 1))) ≡ true
+unfolding body_length every ◌and◌
 all_right c = refl
 
 -- so each entry that is read is the length that is asked for
-entry-right : (c : tie.Else2) → let n = c.before.before.args.n in get_or (table c) (n - 1) 0 ≡ bodyLength n
-entry-right c =
+entry_right : (c : tie.Else2) → let n = c.before.before.args.n in get_or (table c) (n - 1) 0 ≡ body_length n
+entry_right c =
     let n = c.before.before.args.n in
-    let below : n - 1 < deskLimit = omega arith in
+    let below : n - 1 < desk_limit = omega arith in
     let counted : n - 1 + 1 ≡ n = omega arith in
-    eqb-true _ _ (every-at deskLimit _ (all_right c) (n - 1) below) ∙ ap bodyLength counted
+    eqb-true _ _ (every_at desk_limit _ (all_right c) (n - 1) below) ∙ ap body_length counted
 
 returns : tie.Need-returns
-returns c = sym (size-out-of-range _ (inl c.if1.true))
+returns c = sym (size_out_of_range _ (inl c.if1.true))
 
 returns-2 : tie.Need-returns-2
-returns-2 c = sym (size-out-of-range _ (inr c.if2.true))
+returns-2 c = sym (size_out_of_range _ (inr c.if2.true))
 
 sub-result : tie.Need-overflow-sub-result
 sub-result c = search rules
@@ -54,12 +54,12 @@ array-read-result : tie.Need-array-read-result
 array-read-result c = search rules
 
 cast-result : tie.Need-overflow-cast-result
-cast-result c = omega (arith, entry-right c, body-most _ c.if2.false)
+cast-result c = omega (arith, entry_right c, body_most _ c.if2.false)
 
 returns-3 : tie.Need-returns-3
-returns-3 c = entry-right c ∙ sym (size-in-range _ (omega (arith, c.before.if1.false)) c.if2.false)
+returns-3 c = entry_right c ∙ sym (size_in_range _ (omega (arith, c.before.if1.false)) c.if2.false)
 
-pub body-length-spec : {M : Type 1} → statement M
-body-length-spec =
+pub body_length_spec : {M : Type 1} → statement M
+body_length_spec =
     tie.close
     (tie.spec returns returns-2 sub-result mul-result array-read-result cast-result returns-3)

@@ -7,35 +7,35 @@ use mathlib.Core.Path.{◌≡◌}
 use mathlib.Core.Bool.{true, false≢true}
 use borrow.Author.Tests.{leb-true, le-leb, eqb-true, eq-eqb, not-true, not-false}
 use Rattle.rules.specs.Loops.{some}
-use Rattle.rules.specs.Layout.{rowLength}
-use Rattle.rules.specs.Rows.{isRowLength}
+use Rattle.rules.specs.Layout.{row_length}
+use Rattle.rules.specs.Rows.{is_row_length}
 use Rattle.rules.proofs.Loops.Logic.{same}
-use Rattle.rules.proofs.Loops.Every.{every-fails, some_at}
+use Rattle.rules.proofs.Loops.Every.{every_fails, some_at}
 use Rattle.layout.proofs.lengths.is_row_length.Statement.{statement}
 use Rattle.layout.proofs.lengths.is_row_length.Tie as tie
 
 -- 8(n + 1) with n = k + 1 for a k below 8, both ways
-of_length : (ℓ : ℕ) → isRowLength ℓ ≡ true → (ℓ % 8 ≡ 0) × (16 ≤ ℓ) × (ℓ ≤ 72)
-unfolding isRowLength some rowLength
+of_length : (ℓ : ℕ) → is_row_length ℓ ≡ true → (ℓ % 8 ≡ 0) × (16 ≤ ℓ) × (ℓ ≤ 72)
+unfolding is_row_length some row_length
 of_length ℓ e =
-    let w = every-fails 8 _ (not-true _ e) in
+    let w = every_fails 8 _ (not-true _ e) in
     let is : ℓ ≡ 8 * (suc w.0 + 1) = eqb-true _ _ (not-false _ w.2) in
     let below = w.1 in
     (omega arith, omega arith, omega arith)
 
-to-length : (ℓ : ℕ) → ℓ % 8 ≡ 0 → 16 ≤ ℓ → ℓ ≤ 72 → isRowLength ℓ ≡ true
-unfolding isRowLength rowLength
-to-length ℓ whole least most = some_at 8 _ (ℓ / 8 - 2) (omega arith) (eq-eqb ℓ (8 * (suc (ℓ / 8 - 2) + 1)) (omega arith))
+to_length : (ℓ : ℕ) → ℓ % 8 ≡ 0 → 16 ≤ ℓ → ℓ ≤ 72 → is_row_length ℓ ≡ true
+unfolding is_row_length row_length
+to_length ℓ whole least most = some_at 8 _ (ℓ / 8 - 2) (omega arith) (eq-eqb ℓ (8 * (suc (ℓ / 8 - 2) + 1)) (omega arith))
 
 returns : tie.Need-returns
 returns c = same _ _ (λ e. absurd (false≢true e)) (λ e. absurd (c.if1.true (of_length _ e).0))
 
 returns-2 : tie.Need-returns-2
 returns-2 c =
-    same _ _ (λ e. to-length _ c.before.if1.false c.if2.true (leb-true _ _ e)) (λ e. le-leb _ _ (of_length _ e).2)
+    same _ _ (λ e. to_length _ c.before.if1.false c.if2.true (leb-true _ _ e)) (λ e. le-leb _ _ (of_length _ e).2)
 
 returns-3 : tie.Need-returns-3
 returns-3 c = same _ _ (λ e. absurd (not-le_of_lt c.if2.false (leb-true _ _ e))) (λ e. le-leb _ _ (of_length _ e).1)
 
-pub is-row-length-spec : {M : Type 1} → statement M
-is-row-length-spec = tie.close (tie.spec returns returns-2 returns-3)
+pub is_row_length_spec : {M : Type 1} → statement M
+is_row_length_spec = tie.close (tie.spec returns returns-2 returns-3)

@@ -2,7 +2,7 @@
 -- Assumes nothing.
 use native.Mathlib.Omega.{arith}
 use borrow.Author.Rules.{rules}
-use Rattle.rules.specs.Layout.{rowLength}
+use Rattle.rules.specs.Layout.{row_length}
 use Rattle.layout.proofs.lengths.row_length.Statement.{statement}
 use Rattle.layout.proofs.lengths.row_length.Tie as tie
 
@@ -16,8 +16,8 @@ mul-result-2 : tie.Need-overflow-mul-result-2
 mul-result-2 c = search rules
 
 returns : tie.Need-returns
-unfolding rowLength
+unfolding row_length
 returns c = omega arith
 
-pub row-length-spec : {M : Type 1} → statement M
-row-length-spec = tie.close (tie.spec mul-result add-result mul-result-2 returns)
+pub row_length_spec : {M : Type 1} → statement M
+row_length_spec = tie.close (tie.spec mul-result add-result mul-result-2 returns)

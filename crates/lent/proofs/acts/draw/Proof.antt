@@ -13,7 +13,7 @@ use Rattle.rules.specs.Pile.{draw}
 use Rattle.rules.specs.Acts.{spend}
 use Rattle.pile.proofs.Pile.draw.Symbol as callee
 use Rattle.pile.proofs.Pile.draw.Met.{met}
-use Rattle.lent.proofs.LentAct.{Act, Promises, lent-meets}
+use Rattle.lent.proofs.LentAct.{Act, Promises, lent_meets}
 use Rattle.lent.specs.contracts.acts.draw as draw
 use Rattle.lent.specs.contracts.acts.draw.Key.{name}
 use Rattle.lent.proofs.acts.draw.Statement.{statement}
@@ -27,8 +27,8 @@ promised : {M : Type 1} {𝓤 : Ura M} (𝓛 : Logic 𝓤) (mem : Memory → SPr
     → Promises (w8 ∷ w32 ∷ []) act 𝓤 (draw.clauses 𝓛 mem run)
 promised 𝓛 mem run κs a g r e = refl
 
-pub draw-spec : {M : Type 1} → statement M
+pub draw_spec : {M : Type 1} → statement M
 unfolding code.routine
-draw-spec 𝓤 𝓛 𝓜 𝓡 =
-    lent-meets (w8 ∷ w32 ∷ []) act 𝓛 𝓜 𝓡 code.env name callee.name callee.routine (code.unfolded 𝓤 𝓛.H 𝓜 𝓡)
+draw_spec 𝓤 𝓛 𝓜 𝓡 =
+    lent_meets (w8 ∷ w32 ∷ []) act 𝓛 𝓜 𝓡 code.env name callee.name callee.routine (code.unfolded 𝓤 𝓛.H 𝓜 𝓡)
     code.calls-pile::Pile::draw (met 𝓤 𝓛 𝓜 𝓡)

@@ -13,7 +13,7 @@ use Rattle.rules.specs.Pile.{draw}
 use Rattle.rules.specs.Acts.{give}
 use Rattle.pile.proofs.Pile.give_draw.Symbol as callee
 use Rattle.pile.proofs.Pile.give_draw.Met.{met}
-use Rattle.lent.proofs.LentAct.{Act, Promises, lent-meets}
+use Rattle.lent.proofs.LentAct.{Act, Promises, lent_meets}
 use Rattle.lent.specs.contracts.acts.give_draw as give-draw
 use Rattle.lent.specs.contracts.acts.give_draw.Key.{name}
 use Rattle.lent.proofs.acts.give_draw.Statement.{statement}
@@ -27,8 +27,8 @@ promised : {M : Type 1} {𝓤 : Ura M} (𝓛 : Logic 𝓤) (mem : Memory → SPr
     → Promises (w8 ∷ w8 ∷ w32 ∷ []) act 𝓤 (give-draw.clauses 𝓛 mem run)
 promised 𝓛 mem run κs a g r e = refl
 
-pub give-draw-spec : {M : Type 1} → statement M
+pub give_draw_spec : {M : Type 1} → statement M
 unfolding code.routine
-give-draw-spec 𝓤 𝓛 𝓜 𝓡 =
-    lent-meets (w8 ∷ w8 ∷ w32 ∷ []) act 𝓛 𝓜 𝓡 code.env name callee.name callee.routine (code.unfolded 𝓤 𝓛.H 𝓜 𝓡)
+give_draw_spec 𝓤 𝓛 𝓜 𝓡 =
+    lent_meets (w8 ∷ w8 ∷ w32 ∷ []) act 𝓛 𝓜 𝓡 code.env name callee.name callee.routine (code.unfolded 𝓤 𝓛.H 𝓜 𝓡)
     code.calls-pile::Pile::give-draw (met 𝓤 𝓛 𝓜 𝓡)

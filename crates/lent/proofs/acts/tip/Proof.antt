@@ -13,7 +13,7 @@ use Rattle.rules.specs.Pile.{tip}
 use Rattle.rules.specs.Acts.{spend}
 use Rattle.pile.proofs.Pile.tip.Symbol as callee
 use Rattle.pile.proofs.Pile.tip.Met.{met}
-use Rattle.lent.proofs.LentAct.{Act, Promises, lent-meets}
+use Rattle.lent.proofs.LentAct.{Act, Promises, lent_meets}
 use Rattle.lent.specs.contracts.acts.tip as tip
 use Rattle.lent.specs.contracts.acts.tip.Key.{name}
 use Rattle.lent.proofs.acts.tip.Statement.{statement}
@@ -27,8 +27,8 @@ promised : {M : Type 1} {𝓤 : Ura M} (𝓛 : Logic 𝓤) (mem : Memory → SPr
     → Promises (w8 ∷ w32 ∷ []) act 𝓤 (tip.clauses 𝓛 mem run)
 promised 𝓛 mem run κs a g r e = refl
 
-pub tip-spec : {M : Type 1} → statement M
+pub tip_spec : {M : Type 1} → statement M
 unfolding code.routine
-tip-spec 𝓤 𝓛 𝓜 𝓡 =
-    lent-meets (w8 ∷ w32 ∷ []) act 𝓛 𝓜 𝓡 code.env name callee.name callee.routine (code.unfolded 𝓤 𝓛.H 𝓜 𝓡)
+tip_spec 𝓤 𝓛 𝓜 𝓡 =
+    lent_meets (w8 ∷ w32 ∷ []) act 𝓛 𝓜 𝓡 code.env name callee.name callee.routine (code.unfolded 𝓤 𝓛.H 𝓜 𝓡)
     code.calls-pile::Pile::tip (met 𝓤 𝓛 𝓜 𝓡)

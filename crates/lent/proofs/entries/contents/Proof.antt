@@ -52,16 +52,16 @@ use denote.Triple.Table.{entered, cited}
 use denote.Triple.Walked.{says, on_exit, Stays, stay_none_slice, stay_slice, walk_of, Goes-none_slice, Goes-slice, Walks, ends_at, walked, walk_Meets}
 use denote.Exit.{yes}
 use Rattle.rules.specs.Refusals.{done as if-done}
-use Rattle.rules.specs.Layout.{Head, pileNumber, position}
-use Rattle.rules.specs.Book.{contentsAnswer, afterContents}
-use Rattle.rules.proofs.Loops.Refusals.{orElse-first, when-refused}
-use Rattle.rules.proofs.File.Readable.{book-facts}
-use Rattle.layout.specs.Positions.{headIn}
-use Rattle.layout.proofs.Positions.{head-there}
+use Rattle.rules.specs.Layout.{Head, pile_number, position}
+use Rattle.rules.specs.Book.{contents_answer, after_contents}
+use Rattle.rules.proofs.Loops.Refusals.{or_else_first, when_refused}
+use Rattle.rules.proofs.File.Readable.{book_facts}
+use Rattle.layout.specs.Positions.{head_in}
+use Rattle.layout.proofs.Positions.{head_there}
 use Rattle.lent.specs.Entries.{entry_of}
 use Rattle.lent.specs.declared.entries.Entry.{Entry}
-use Rattle.rules.proofs.File.Contents.{entriesFilled, filled_within, contents-filled}
-use Rattle.rules.proofs.Loops.Partly.{partly, partly_none, length-partly, partly-next}
+use Rattle.rules.proofs.File.Contents.{entries_filled, filled_within, contents_filled}
+use Rattle.rules.proofs.Loops.Partly.{partly, partly_none, length_partly, partly_next}
 use Rattle.lent.proofs.Passed.{Shared, token, passes, returned}
 use Rattle.lent.specs.contracts.entries.Entry as T
 use Rattle.lent.proofs.entries.Entry.TheLaws as T'
@@ -92,11 +92,11 @@ E = T.the_row
 abbrev word : Ty
 word = ty_int w64
 
-abbrev bookTy : Ty
-bookTy = slice_ty (ty_ref (named 0) imm (ty_int w8))
+abbrev book_ty : Ty
+book_ty = slice_ty (ty_ref (named 0) imm (ty_int w8))
 
-abbrev entriesTy : Ty
-entriesTy = slice_ty (ty_ref (named 1) mut (pointee E.written))
+abbrev entries_ty : Ty
+entries_ty = slice_ty (ty_ref (named 1) mut (pointee E.written))
 
 -- the contracts that the proof cites
 module _ {M : Type 1} {𝓤 : Ura M} (𝓛 : Logic 𝓤) (mem : Memory → SProp 𝓤) (run : Routine → Fun 𝓤) where
@@ -110,12 +110,12 @@ module _ {M : Type 1} {𝓤 : Ura M} (𝓛 : Logic 𝓤) (mem : Memory → SProp
   Reads = triple_of 𝓛 entry_at.signature (entry_at.spec 𝓛 mem run)
 
 -- as many entries are filled as the head says piles: a book that is not refused has its head
-filled_is : (b : List ℕ) (room : ℕ) → if-done (contentsAnswer b room) (headIn b).piles 0 ≡ entriesFilled b room
-unfolding contentsAnswer
+filled_is : (b : List ℕ) (room : ℕ) → if-done (contents_answer b room) (head_in b).piles 0 ≡ entries_filled b room
+unfolding contents_answer
 filled_is b room =
-    by_cases (ℕ_discrete (contentsAnswer b room) 0)
-    (λ z. ap (λ (h : Head). if-done (contentsAnswer b room) h.piles 0) (head-there b (book-facts b (orElse-first _ _ z)).long))
-    (λ d. when-refused _ _ _ d ∙ sym (when-refused _ _ _ d))
+    by_cases (ℕ_discrete (contents_answer b room) 0)
+    (λ z. ap (λ (h : Head). if-done (contents_answer b room) h.piles 0) (head_there b (book_facts b (or_else_first _ _ z)).long))
+    (λ d. when_refused _ _ _ d ∙ sym (when_refused _ _ _ d))
 
 module _ {M : Type 1} {𝓤 : Ura M} (𝓛 : Logic 𝓤) (mem : Memory → SProp 𝓤) (run : Routine → Fun 𝓤) (κ κ' : Lft) (q q' : Share)
     (s : MutBor (List ℕ)) (b o : ℕ) (γ : GName) (out : List Entry) (room : Room E (length out)) where
@@ -128,14 +128,14 @@ module _ {M : Type 1} {𝓤 : Ura M} (𝓛 : Logic 𝓤) (mem : Memory → SProp
   n = length out
 
   abbrev answer : ℕ
-  answer = contentsAnswer book n
+  answer = contents_answer book n
 
   abbrev count : ℕ
-  count = entriesFilled book n
+  count = entries_filled book n
 
   -- line k of the contents, and the list with k lines filled in
   abbrev line : ℕ → Entry
-  line k = entry_of (pileNumber book k) (position book k)
+  line k = entry_of (pile_number book k) (position book k)
 
   abbrev so_far : ℕ → List Entry
   so_far = partly line out
@@ -166,25 +166,25 @@ module _ {M : Type 1} {𝓤 : Ura M} (𝓛 : Logic 𝓤) (mem : Memory → SProp
   own = ‵ (Shared κ s)
 
   -- ---- what each callee's triple binds outside, that the caller has what it asks, and what its answer gives
-  abbrev to-answer : (Answers 𝓛 mem run).Ghost
-  to-answer = (((κ, tt), (q, tt), tt, (s, (n, tt)), (v ∷ [], (vint w64 n ∷ [], tt))), tt)
+  abbrev to_answer : (Answers 𝓛 mem run).Ghost
+  to_answer = (((κ, tt), (q, tt), tt, (s, (n, tt)), (v ∷ [], (vint w64 n ∷ [], tt))), tt)
 
-  asks-answer : ent 𝓤 (⋆ 𝓛 (tok ∷ own ∷ [])) (⋆ 𝓛 (raw ((Answers 𝓛 mem run).pre to-answer) ∷ own ∷ []))
-  asks-answer = passes 𝓛 κ q s usize n (vint w64 n ∷ []) (uint_Makes 𝓛 w64 n _ (refl, room.0)) (emp 𝓤) (id⊢ 𝓤 (emp 𝓤))
+  asks_answer : ent 𝓤 (⋆ 𝓛 (tok ∷ own ∷ [])) (⋆ 𝓛 (raw ((Answers 𝓛 mem run).pre to_answer) ∷ own ∷ []))
+  asks_answer = passes 𝓛 κ q s usize n (vint w64 n ∷ []) (uint_Makes 𝓛 w64 n _ (refl, room.0)) (emp 𝓤) (id⊢ 𝓤 (emp 𝓤))
 
-  answered : (w : Val) → ent 𝓤 ((Answers 𝓛 mem run).post to-answer w) (H.⇛ (⋆ 𝓛 (tok ∷ ‵ (u8.own_val answer (w ∷ [])) ∷ [])))
+  answered : (w : Val) → ent 𝓤 ((Answers 𝓛 mem run).post to_answer w) (H.⇛ (⋆ 𝓛 (tok ∷ ‵ (u8.own_val answer (w ∷ [])) ∷ [])))
   answered w = returned 𝓛 κ q contents-answer.ended (κ, tt) (s, (n, tt)) u8 answer w
 
-  abbrev to-count : (Counts 𝓛 mem run).Ghost
-  to-count = (((κ, tt), (q, tt), tt, (s, (answer, tt)), (v ∷ [], (vint w8 answer ∷ [], tt))), tt)
+  abbrev to_count : (Counts 𝓛 mem run).Ghost
+  to_count = (((κ, tt), (q, tt), tt, (s, (answer, tt)), (v ∷ [], (vint w8 answer ∷ [], tt))), tt)
 
-  asks-count : answer < 2 ^ 8 → ent 𝓤 (⋆ 𝓛 (tok ∷ own ∷ [])) (⋆ 𝓛 (raw ((Counts 𝓛 mem run).pre to-count) ∷ own ∷ []))
-  asks-count fits = passes 𝓛 κ q s u8 answer (vint w8 answer ∷ []) (uint_Makes 𝓛 w8 answer _ (refl, fits)) (emp 𝓤) (id⊢ 𝓤 (emp 𝓤))
+  asks_count : answer < 2 ^ 8 → ent 𝓤 (⋆ 𝓛 (tok ∷ own ∷ [])) (⋆ 𝓛 (raw ((Counts 𝓛 mem run).pre to_count) ∷ own ∷ []))
+  asks_count fits = passes 𝓛 κ q s u8 answer (vint w8 answer ∷ []) (uint_Makes 𝓛 w8 answer _ (refl, fits)) (emp 𝓤) (id⊢ 𝓤 (emp 𝓤))
 
-  counted : (w : Val) → ent 𝓤 ((Counts 𝓛 mem run).post to-count w) (H.⇛ (⋆ 𝓛 (tok ∷ ‵ (usize.own_val count (w ∷ [])) ∷ [])))
+  counted : (w : Val) → ent 𝓤 ((Counts 𝓛 mem run).post to_count w) (H.⇛ (⋆ 𝓛 (tok ∷ ‵ (usize.own_val count (w ∷ [])) ∷ [])))
   counted w =
-      subst (λ (m : ℕ). ent 𝓤 ((Counts 𝓛 mem run).post to-count w) (H.⇛ (⋆ 𝓛 (tok ∷ ‵ (usize.own_val m (w ∷ [])) ∷ [])))) (filled_is book n)
-      (returned 𝓛 κ q entries-filled.ended (κ, tt) (s, (answer, tt)) usize (if-done answer (headIn book).piles 0) w)
+      subst (λ (m : ℕ). ent 𝓤 ((Counts 𝓛 mem run).post to_count w) (H.⇛ (⋆ 𝓛 (tok ∷ ‵ (usize.own_val m (w ∷ [])) ∷ [])))) (filled_is book n)
+      (returned 𝓛 κ q entries-filled.ended (κ, tt) (s, (answer, tt)) usize (if-done answer (head_in book).piles 0) w)
 
   abbrev to_read : ℕ → (Reads 𝓛 mem run).Ghost
   to_read k = (((κ, tt), (q, tt), tt, (s, (k, tt)), (v ∷ [], (vint w64 k ∷ [], tt))), tt)
@@ -196,15 +196,15 @@ module _ {M : Type 1} {𝓤 : Ura M} (𝓛 : Logic 𝓤) (mem : Memory → SProp
   was_read k w = returned 𝓛 κ q entry_at.ended (κ, tt) (s, (k, tt)) E (line k) w
 
   -- ---- the numbers
-  count-within : count ≤ n
-  count-within = (filled_within book n).0
+  count_within : count ≤ n
+  count_within = (filled_within book n).0
 
-  count-few : count ≤ 32
-  count-few = (filled_within book n).1
+  count_few : count ≤ 32
+  count_few = (filled_within book n).1
 
   -- ---- the exit: the list is still owned, with all its lines filled in
   same : length (so_far count) ≡ n
-  same = length-partly line out count count-within
+  same = length_partly line out count count_within
 
   abbrev y : Bor (List Entry)
   y = record { ref_ptr = (b, o); ghost_name = γ; now = so_far count }
@@ -220,8 +220,8 @@ module _ {M : Type 1} {𝓤 : Ura M} (𝓛 : Logic 𝓤) (mem : Memory → SProp
   exits fits =
       qed 𝓛 Exit ∵
       suffices ! _ (ends_at 𝓛 contents.ended stayed (contents.clauses 𝓛 mem run) bound (vint w8 answer) answer (tt, (so_far count, tt)) (tt, (same, tt))) $
-      suffices ! _ (assoc∗ 𝓤 Had (fact 𝓤 (answer ≡ answer)) (fact 𝓤 (so_far count ≡ afterContents entry_of book out))) $
-      says ! (contents-filled entry_of book out) $ says ! refl $
+      suffices ! _ (assoc∗ 𝓤 Had (fact 𝓤 (answer ≡ answer)) (fact 𝓤 (so_far count ≡ after_contents entry_of book out))) $
+      says ! (contents_filled entry_of book out) $ says ! refl $
       move ! (3 ∷ []) $ split ! $ move ! (4 ∷ 1 ∷ []) $ join ! $ move ! (1 ∷ 0 ∷ []) $ join ! $ frame ! $
       -- [obs; the borrow; what book owns]
       fjoin ! $ pure_i ! (shr_slice_at E y (u ∷ [])) (tt, (tt, tt)) (ap (λ (m : ℕ). slice_val (b, o) m ∷ []) (sym same), subst (Room E) (sym same) room) $ fjoin ! $
@@ -251,12 +251,12 @@ module _ {M : Type 1} {𝓤 : Ura M} (𝓛 : Logic 𝓤) (mem : Memory → SProp
 
     module _ (fits : answer < 2 ^ 8) (l₀ l₁ l₂ l₃ l₄ l₅ l₆ l₇ l₈ l₉ l₁₀ : ℕ) where
       abbrev En : Env 𝓤 H
-      En = (ty_int w8, l₀) ∷ (bookTy, l₁) ∷ (entriesTy, l₂) ∷ (ty_int w8, l₃) ∷ (word, l₄) ∷ (word, l₅) ∷ (word, l₆) ∷ (ty_bool, l₇) ∷ (T'.mir, l₈) ∷ (word, l₉) ∷ (ty_ptr, l₁₀) ∷ []
+      En = (ty_int w8, l₀) ∷ (book_ty, l₁) ∷ (entries_ty, l₂) ∷ (ty_int w8, l₃) ∷ (word, l₄) ∷ (word, l₅) ∷ (word, l₆) ∷ (ty_bool, l₇) ∷ (T'.mir, l₈) ∷ (word, l₉) ∷ (ty_ptr, l₁₀) ∷ []
 
       -- the locals that no turn leaves changed
       abbrev Locals : List (Item 𝓤)
       Locals = ‵ (fat full_share word l₄ 0 (vint w64 count)) ∷ ‵ (fdies word l₄) ∷ ‵ (fat full_share (ty_int w8) l₃ 0 (vint w8 answer)) ∷ ‵ (fdies (ty_int w8) l₃)
-          ∷ ‵ (fat full_share entriesTy l₂ 0 u) ∷ ‵ (fdies entriesTy l₂) ∷ ‵ (fat full_share bookTy l₁ 0 v) ∷ ‵ (fdies bookTy l₁) ∷ ‵ (froom (ty_int w8) l₀ 0) ∷ ‵ (fdies (ty_int w8) l₀) ∷ []
+          ∷ ‵ (fat full_share entries_ty l₂ 0 u) ∷ ‵ (fdies entries_ty l₂) ∷ ‵ (fat full_share book_ty l₁ 0 v) ∷ ‵ (fdies book_ty l₁) ∷ ‵ (froom (ty_int w8) l₀ 0) ∷ ‵ (fdies (ty_int w8) l₀) ∷ []
 
       -- what each turn begins with, where k entries are filled
       abbrev At : Upto → List (Item 𝓤)
@@ -281,7 +281,7 @@ module _ {M : Type 1} {𝓤 : Ura M} (𝓛 : Logic 𝓤) (mem : Memory → SProp
           rewrite ! 12 (λ (t : Bool). ‵ (fat full_share ty_bool l₇ 0 (vbool t))) (lt-ltb k.0 count less) refl $
           stays ! (load ! (from ! (stop !)) (look ! 12 refl)) $
           -- the line is read
-          move ! (4 ∷ 5 ∷ []) $ use2 𝓛 (raw ((Reads 𝓛 mem run).pre (to_read k.0)) ⊛ own) (asks_read k.0 at-fits small) $ split ! $
+          move ! (4 ∷ 5 ∷ []) $ use2 𝓛 (raw ((Reads 𝓛 mem run).pre (to_read k.0)) ⊛ own) (asks_read k.0 at_fits small) $ split ! $
           calls_at ! fm (Reads 𝓛 mem run) known_read (to_read k.0)
           (and_then ! (load ! (from ! (stop !)) (look ! 24 refl)) (and_then ! (load ! (from ! (stop !)) (look ! 16 refl)) (no_more !))) (λ w.
           use1 𝓛 (later (tok ⊛ ‵ (E.own (line k.0) (w ∷ [])))) (was_read k.0 w) $ await ! tt $ split ! $ move ! (1 ∷ []) $
@@ -290,8 +290,8 @@ module _ {M : Type 1} {𝓤 : Ura M} (𝓛 : Logic 𝓤) (mem : Memory → SProp
           let typed = ((LL.lawful T.the_type T'.the_laws 𝓛).typed (line k.0) _ is).0 in
           land ! (from ! (stop !)) (init ! 11 refl typed) $
           -- the place of entry k
-          assigns ! (bin ! (load ! (from ! (stop !)) (look ! 17 refl)) (lit ! tt) (record { fits = far-fits }))
-          (from ! (stop !)) (init ! 9 refl (tt, record { fits = far-fits })) $
+          assigns ! (bin ! (load ! (from ! (stop !)) (look ! 17 refl)) (lit ! tt) (record { fits = far_fits }))
+          (from ! (stop !)) (init ! 9 refl (tt, record { fits = far_fits })) $
           assigns ! (bin ! (load ! (from ! (fld ! refl (stop !))) (look_in ! 23 (sub ! 0 refl (whole !)))) (load ! (from ! (stop !)) (look ! 9 refl)) tt)
           (from ! (stop !)) (init ! 7 refl (tt, tt)) $
           rewrite ! 7 (λ (p : ℕ). ‵ (fat full_share ty_ptr l₁₀ 0 (vptr b p))) (sym (place_is 8 o k.0)) refl $
@@ -301,26 +301,26 @@ module _ {M : Type 1} {𝓤 : Ura M} (𝓛 : Logic 𝓤) (mem : Memory → SProp
           -- [the entry; what it owns; the others; what the line owns; the token; what book owns; the open borrow; obs; auth; _10; …]
           assigns ! (of_opd ! (load ! (from ! (stop !)) (look ! 13 refl))) (from ! (hop ! (look ! 9 refl) (stop !))) (store_raw ! 0 refl typed) $
           move ! (1 ∷ []) $ drop ! $ move ! (0 ∷ 2 ∷ 1 ∷ []) $ elem_put ! E full_share (so_far k.0) k.0 (line k.0) (w ∷ []) b o within $
-          rewrite ! 0 (λ (ys : List Entry). ‵ (row E full_share ys b o)) (partly-next line out k.0 below) refl $
+          rewrite ! 0 (λ (ys : List Entry). ‵ (row E full_share ys b o)) (partly_next line out k.0 below) refl $
           assigns_last ! (bin ! (load ! (from ! (stop !)) (look ! 16 refl)) (lit ! tt) (record { fits = next_fits }))
           (from ! (stop !)) (store ! 16 refl (tt, record { fits = next_fits })) $
           forget ! 6 refl $ forget ! 8 refl $ forget ! 10 refl $ forget ! 12 refl $ move ! (0 ∷ 3 ∷ 4 ∷ 5 ∷ 1 ∷ 2 ∷ []) $
           again ! Nearer At k next nearer)))
         where
           below : k.0 < n
-          below = omega (arith, less, count-within)
+          below = omega (arith, less, count_within)
 
           within : k.0 < length (so_far k.0)
-          within = subst (λ (m : ℕ). k.0 < m) (sym (length-partly line out k.0 (omega (arith, below)))) below
+          within = subst (λ (m : ℕ). k.0 < m) (sym (length_partly line out k.0 (omega (arith, below)))) below
 
           small : k.0 < 256
-          small = omega (arith, less, count-few)
+          small = omega (arith, less, count_few)
 
-          at-fits : k.0 < 2 ^ 64
-          at-fits = omega (arith, small)
+          at_fits : k.0 < 2 ^ 64
+          at_fits = omega (arith, small)
 
-          far-fits : k.0 * 8 < 2 ^ 64
-          far-fits = omega (arith, small)
+          far_fits : k.0 * 8 < 2 ^ 64
+          far_fits = omega (arith, small)
 
           next_fits : k.0 + 1 < 2 ^ 64
           next_fits = omega (arith, small)
@@ -368,15 +368,15 @@ module _ {M : Type 1} {𝓤 : Ura M} (𝓛 : Logic 𝓤) (mem : Memory → SProp
         move ! (23 ∷ []) $ fsplit ! $ move ! (1 ∷ []) $ fsplit ! $ move ! (1 ∷ []) $ drop ! $ fsplit ! $ drop ! $ fsplit ! $
         move ! (25 ∷ []) $ split ! $ move ! (1 ∷ []) $ split ! $ move ! (2 ∷ 1 ∷ []) $ join ! $ move ! (0 ∷ 4 ∷ []) $
         -- [book's token; what book owns; the other token; obs; the borrow; _10; …; _0; …]
-        use2 𝓛 (raw ((Answers 𝓛 mem run).pre to-answer) ⊛ own) asks-answer $ split ! $
-        calls_at ! fm (Answers 𝓛 mem run) known-answer to-answer
+        use2 𝓛 (raw ((Answers 𝓛 mem run).pre to_answer) ⊛ own) asks_answer $ split ! $
+        calls_at ! fm (Answers 𝓛 mem run) known-answer to_answer
         (and_then ! (load ! (from ! (stop !)) (look ! 23 refl)) (and_then ! (load ! (from ! (stop !)) (look ! 13 refl)) (no_more !))) (λ w.
         use1 𝓛 (later (tok ⊛ ‵ (u8.own_val answer (w ∷ [])))) (answered w) $ await ! tt $ split ! $ move ! (1 ∷ []) $
         facts ! u8 (Is u8) (shows 𝓛 u8) answer (w ∷ []) (λ is.
         land ! (from ! (stop !)) (init ! 19 refl ((uint_Lawful 𝓛 w8).typed answer _ is).0) $
         rewrite ! 19 (λ (z : Val). ‵ (fat full_share (ty_int w8) l₃ 0 z)) (ap only is.0) refl $
-        use2 𝓛 (raw ((Counts 𝓛 mem run).pre to-count) ⊛ own) (asks-count is.1) $ split ! $
-        calls_at ! fm (Counts 𝓛 mem run) known-count to-count
+        use2 𝓛 (raw ((Counts 𝓛 mem run).pre to_count) ⊛ own) (asks_count is.1) $ split ! $
+        calls_at ! fm (Counts 𝓛 mem run) known-count to_count
         (and_then ! (load ! (from ! (stop !)) (look ! 23 refl)) (and_then ! (load ! (from ! (stop !)) (look ! 19 refl)) (no_more !))) (λ w'.
         use1 𝓛 (later (tok ⊛ ‵ (usize.own_val count (w' ∷ [])))) (counted w') $ await ! tt $ split ! $ move ! (1 ∷ []) $
         facts ! usize (Is usize) (shows 𝓛 usize) count (w' ∷ []) (λ is'.
@@ -389,11 +389,11 @@ module _ {M : Type 1} {𝓤 : Ura M} (𝓛 : Logic 𝓤) (mem : Memory → SProp
         first ! $ blocks ! $
         loops ! 𝓣 Nearer Nearer-wf (At is.1 l₀ l₁ l₂ l₃ l₄ l₅ l₆ l₇ l₈ l₉ l₁₀) (turns is.1 l₀ l₁ l₂ l₃ l₄ l₅ l₆ l₇ l₈ l₉ l₁₀) (0, zero-le))))))))))))))))
 
-contents-meets : {M : Type 1} {𝓤 : Ura M} (𝓛 : Logic 𝓤) → (mem : Memory → SProp 𝓤) (run : Routine → Fun 𝓤) (𝓣 : Tables 𝓤 𝓛.H)
+contents_meets : {M : Type 1} {𝓤 : Ura M} (𝓛 : Logic 𝓤) → (mem : Memory → SProp 𝓤) (run : Routine → Fun 𝓤) (𝓣 : Tables 𝓤 𝓛.H)
     → Triple 𝓤 (𝓣.C #lent·entries·contents-answer) (Answers 𝓛 mem run)
     → Triple 𝓤 (𝓣.C #lent·entries·entries-filled) (Counts 𝓛 mem run) → Triple 𝓤 (𝓣.C #lent·entries·entry-at) (Reads 𝓛 mem run)
     → Meets 𝓛 contents.signature (WpFn 𝓤 𝓛.H 𝓣.C 𝓣.Λ code.function) (contents.spec 𝓛 mem run)
-contents-meets {𝓤 = 𝓤} 𝓛 mem run 𝓣 known-answer known-count known_read =
+contents_meets {𝓤 = 𝓤} 𝓛 mem run 𝓣 known-answer known-count known_read =
     walk_Meets 𝓛 contents.ended stayed
     (Goes-none_slice 𝓛 2 (0 ∷ []) tt (plain (λ _. u8)) yes, (Goes-slice 𝓛 2 1 tt (plain (λ _. E)), tt)) (contents.clauses 𝓛 mem run)
     (WpFn 𝓤 𝓛.H 𝓣.C 𝓣.Λ code.function) (WpFn-mono 𝓤 𝓛.H 𝓛.laws 𝓣 code.function) walks
@@ -405,12 +405,12 @@ contents-meets {𝓤 = 𝓤} 𝓛 mem run 𝓣 known-answer known-count known_re
         (walk 𝓛 mem run κs.0 κs.1.0 qs.0 qs.1.0 a.0 a.1.0.ptr.0 a.1.0.ptr.1
         a.1.0.ghost_name a.1.0.now are.1.0.0.1 𝓣 known-answer known-count known_read are.0))
 
-pub contents-spec : {M : Type 1} → stated.statement M
+pub contents_spec : {M : Type 1} → stated.statement M
 unfolding code.routine tables_of
-contents-spec 𝓤 𝓛 𝓜 𝓡 =
+contents_spec 𝓤 𝓛 𝓜 𝓡 =
     entered 𝓤 𝓛.H (triple_of 𝓛 contents.signature (contents.spec 𝓛 𝓜.mem 𝓡.run))
     (tables 𝓤 𝓛.H 𝓜 𝓡 code.env).C (tables 𝓤 𝓛.H 𝓜 𝓡 code.env).Λ #lent·entries·contents code.function (code.unfolded 𝓤 𝓛.H 𝓜 𝓡)
-    (contents-meets 𝓛 𝓜.mem 𝓡.run (tables_of 𝓤 𝓛.H 𝓜 (tables 𝓤 𝓛.H 𝓜 𝓡 code.env))
+    (contents_meets 𝓛 𝓜.mem 𝓡.run (tables_of 𝓤 𝓛.H 𝓜 (tables 𝓤 𝓛.H 𝓜 𝓡 code.env))
     (cited 𝓤 𝓛.H (Answers 𝓛 𝓜.mem 𝓡.run) 𝓜 𝓡 code.env #lent·entries·contents-answer contents-answer-def.routine
     code.calls-lent::entries::contents-answer (contents-answer-thm.met 𝓤 𝓛 𝓜 𝓡))
     (cited 𝓤 𝓛.H (Counts 𝓛 𝓜.mem 𝓡.run) 𝓜 𝓡 code.env #lent·entries·entries-filled entries-filled-def.routine

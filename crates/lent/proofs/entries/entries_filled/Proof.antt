@@ -2,13 +2,13 @@
 -- Assumes nothing.
 use mathlib.Core.Path.{ap, sym, ◌∙◌}
 use Rattle.rules.specs.Layout.{Head}
-use Rattle.rules.proofs.Loops.Refusals.{when-accepted, when-refused}
+use Rattle.rules.proofs.Loops.Refusals.{when_accepted, when_refused}
 use borrow.Author.Rules.{rules}
 use Rattle.lent.proofs.entries.entries_filled.Statement.{statement}
 use Rattle.lent.proofs.entries.entries_filled.Tie as tie
 
 returns : tie.Need-returns
-returns c = sym (when-refused _ _ _ c.if1.true)
+returns c = sym (when_refused _ _ _ c.if1.true)
 
 head-of-requires : tie.Need-head-of-requires
 head-of-requires c κs = search rules
@@ -17,7 +17,7 @@ cast-result : tie.Need-overflow-cast-result
 cast-result c = search rules
 
 returns-2 : tie.Need-returns-2
-returns-2 c = ap (λ (h : Head). h.piles) c.before.head_of.ensures ∙ sym (when-accepted _ _ _ c.before.before.if1.false)
+returns-2 c = ap (λ (h : Head). h.piles) c.before.head_of.ensures ∙ sym (when_accepted _ _ _ c.before.before.if1.false)
 
-pub entries-filled-spec : {M : Type 1} → statement M
-entries-filled-spec = tie.close (tie.spec returns head-of-requires cast-result returns-2)
+pub entries_filled_spec : {M : Type 1} → statement M
+entries_filled_spec = tie.close (tie.spec returns head-of-requires cast-result returns-2)

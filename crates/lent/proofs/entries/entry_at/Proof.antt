@@ -21,7 +21,7 @@ position-requires c κs = search rules
 returns : tie.Need-returns
 returns c = ap₂ entry_of c.before.pile-number.ensures c.position.ensures
 
-pub entry-at-spec : {M : Type 1} → statement M
-entry-at-spec =
+pub entry_at_spec : {M : Type 1} → statement M
+entry_at_spec =
     tie.close
     (tie.spec cast-pile-number pile-number-requires cast-position position-requires returns)

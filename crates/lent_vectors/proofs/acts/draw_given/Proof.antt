@@ -7,7 +7,7 @@ use Rattle.rules.specs.Acts.{give}
 use Rattle.lent.proofs.give_draw.Symbol as callee
 use Rattle.lent.proofs.give_draw.Met.{met}
 use Rattle.lent.proofs.LentAct.{Act}
-use Rattle.lent_vectors.proofs.Handed.{handed-meets}
+use Rattle.lent_vectors.proofs.Handed.{handed_meets}
 use Rattle.lent_vectors.specs.contracts.acts.draw_given.Key.{name}
 use Rattle.lent_vectors.proofs.acts.draw_given.Statement.{statement}
 use Rattle.lent_vectors.proofs.acts.draw_given.Code as code
@@ -15,8 +15,8 @@ use Rattle.lent_vectors.proofs.acts.draw_given.Code as code
 abbrev act : Act (w8 ∷ w8 ∷ w32 ∷ [])
 act ns = (ns.0, give draw ns.1.0, ns.1.1.0)
 
-pub draw-given-spec : {M : Type 1} → statement M
+pub draw_given_spec : {M : Type 1} → statement M
 unfolding code.routine
-draw-given-spec 𝓤 𝓛 𝓜 𝓡 =
-    handed-meets (w8 ∷ w8 ∷ w32 ∷ []) act 𝓛 𝓜 𝓡 code.env name callee.name callee.routine (code.unfolded 𝓤 𝓛.H 𝓜 𝓡)
+draw_given_spec 𝓤 𝓛 𝓜 𝓡 =
+    handed_meets (w8 ∷ w8 ∷ w32 ∷ []) act 𝓛 𝓜 𝓡 code.env name callee.name callee.routine (code.unfolded 𝓤 𝓛.H 𝓜 𝓡)
     code.calls-lent::give-draw (met 𝓤 𝓛 𝓜 𝓡)

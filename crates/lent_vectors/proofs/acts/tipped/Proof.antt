@@ -7,7 +7,7 @@ use Rattle.rules.specs.Acts.{spend}
 use Rattle.lent.proofs.tip.Symbol as callee
 use Rattle.lent.proofs.tip.Met.{met}
 use Rattle.lent.proofs.LentAct.{Act}
-use Rattle.lent_vectors.proofs.Handed.{handed-meets}
+use Rattle.lent_vectors.proofs.Handed.{handed_meets}
 use Rattle.lent_vectors.specs.contracts.acts.tipped.Key.{name}
 use Rattle.lent_vectors.proofs.acts.tipped.Statement.{statement}
 use Rattle.lent_vectors.proofs.acts.tipped.Code as code
@@ -15,8 +15,8 @@ use Rattle.lent_vectors.proofs.acts.tipped.Code as code
 abbrev act : Act (w8 ∷ w32 ∷ [])
 act ns = (ns.0, spend tip, ns.1.0)
 
-pub tipped-spec : {M : Type 1} → statement M
+pub tipped_spec : {M : Type 1} → statement M
 unfolding code.routine
-tipped-spec 𝓤 𝓛 𝓜 𝓡 =
-    handed-meets (w8 ∷ w32 ∷ []) act 𝓛 𝓜 𝓡 code.env name callee.name callee.routine (code.unfolded 𝓤 𝓛.H 𝓜 𝓡)
+tipped_spec 𝓤 𝓛 𝓜 𝓡 =
+    handed_meets (w8 ∷ w32 ∷ []) act 𝓛 𝓜 𝓡 code.env name callee.name callee.routine (code.unfolded 𝓤 𝓛.H 𝓜 𝓡)
     code.calls-lent::tip (met 𝓤 𝓛 𝓜 𝓡)

@@ -30,8 +30,8 @@ use denote.Triple.Walked.{says, Stays, stay_dropped, walk_of, Goes-dropped, Walk
 use denote.Exit.{yes}
 use Rattle.rules.specs.Pile as side
 use Rattle.rules.specs.Acts.{spend, give}
-use Rattle.rules.specs.Record.{recordAfterAct}
-use Rattle.pile.specs.View.{asRecord}
+use Rattle.rules.specs.Record.{record_after_act}
+use Rattle.pile.specs.View.{as_record}
 use Rattle.pile.specs.declared.Pile.{Pile}
 use Rattle.pile.specs.contracts.Pile as P
 use Rattle.pile.proofs.Pile.TheLaws as P'
@@ -45,7 +45,7 @@ use Rattle.lent.proofs.draw.Met as draw-thm
 use Rattle.lent.proofs.give_draw.Symbol as give-draw-def
 use Rattle.lent.proofs.give_draw.Symbol.{name as #give-draw}
 use Rattle.lent.proofs.give_draw.Met as give-draw-thm
-use Rattle.lent_vectors.specs.Worked.{afterWorked}
+use Rattle.lent_vectors.specs.Worked.{after_worked}
 use Rattle.lent_vectors.proofs.OnLocal as L
 use Rattle.lent_vectors.proofs.OnLocal.{machine, ref_ty, Sound}
 use Rattle.lent_vectors.specs.contracts.acts.worked as worked
@@ -81,7 +81,7 @@ module _ {M : Type 1} {𝓤 : Ura M} (𝓛 : Logic 𝓤) (mem : Memory → SProp
   abbrev Post : Val → SProp 𝓤
   Post = (walk_of 𝓛 worked.ended stayed (worked.clauses 𝓛 mem run)).post bound
 
-  exits : (p : Pile) → Sound p → asRecord p ≡ afterWorked (asRecord p₀) → ent 𝓤 (emp 𝓤) (Post (machine p))
+  exits : (p : Pile) → Sound p → as_record p ≡ after_worked (as_record p₀) → ent 𝓤 (emp 𝓤) (Post (machine p))
   exits p sound e =
       qed 𝓛 [] ∵ suffices ! _ (ends_at 𝓛 worked.ended stayed (worked.clauses 𝓛 mem run) bound (machine p) p (tt, tt) (tt, tt)) $ says ! e $
       owned ! P.the_row (Is P.the_row) (LL.makes P.the_type P'.the_plain 𝓛) p _ sound $ nothing ! $ nothing ! $ fjoin ! $ nothing ! $ done !
@@ -94,9 +94,9 @@ module _ {M : Type 1} {𝓤 : Ura M} (𝓛 : Logic 𝓤) (mem : Memory → SProp
         alloc1 ! (λ l₀. alloc1 ! (λ l₁. alloc1 ! (λ l₂. alloc1 ! (λ l₃. alloc1 ! (λ l₄. alloc1 ! (λ l₅. alloc1 ! (λ l₆. alloc1 ! (λ l₇. alloc1 ! (λ l₈. alloc1 ! (λ l₉. alloc1 ! (λ l₁₀. alloc0 ! $ params1 ! $
         pass1 ! (init ! 18 refl ((LL.lawful P.the_type P'.the_laws 𝓛).typed p₀ _ sound₀).0) $ pass0 ! $
         let E : Env 𝓤 H = (P'.mir, l₀) ∷ (P'.mir, l₁) ∷ (P'.mir, l₂) ∷ (ty_int w8, l₃) ∷ (ref_ty, l₄) ∷ (ref_ty, l₅) ∷ (ref_ty, l₆) ∷ (ref_ty, l₇) ∷ (ref_ty, l₈) ∷ (ref_ty, l₉) ∷ (ref_ty, l₁₀) ∷ [] in
-        let tip-on = L.acts-on spends tips 𝓛 C Λ fm #tip known-tips E 2 3 in
-        let draw-on = L.acts-on spends draws 𝓛 C Λ fm #draw known-draws E 2 3 in
-        let give-on = L.acts-on givings gives 𝓛 C Λ fm #give-draw known-gives E 2 3 in
+        let tip-on = L.acts_on spends tips 𝓛 C Λ fm #tip known-tips E 2 3 in
+        let draw-on = L.acts_on spends draws 𝓛 C Λ fm #draw known-draws E 2 3 in
+        let give-on = L.acts_on givings gives 𝓛 C Λ fm #give-draw known-gives E 2 3 in
         assigns ! (of_opd ! (load ! (from ! (stop !)) (look ! 18 refl))) (from ! (stop !)) (init ! 16 refl ((LL.lawful P.the_type P'.the_laws 𝓛).typed p₀ _ sound₀).0) $
         -- at each call: [the record; room for the answer; room for the reference; …]
         move ! (16 ∷ 14 ∷ 12 ∷ []) $ tip-on 4 l₂ l₃ l₄ refl refl refl p₀ sound₀ (0, (30, tt)) ((refl, lit< tt), ((refl, lit< tt), tt)) (at_ret E Post) _ _ _ (λ i₀ i₁ i₂ i₃. and_then ! (lit ! tt) (and_then ! (lit ! tt) (no_more !))) (λ p₁ _ sound₁ _ _ e₁. forget ! 1 refl $
@@ -111,8 +111,8 @@ module _ {M : Type 1} {𝓤 : Ura M} (𝓛 : Logic 𝓤) (mem : Memory → SProp
         returns ! (look ! 20 refl) $ forget ! 0 refl $ forget ! 2 refl $ forget ! 3 refl $ forget ! 4 refl $ forget ! 5 refl $ forget ! 6 refl $ forget ! 7 refl $ forget ! 8 refl $ forget ! 18 refl $ forget ! 20 refl $
         move ! (20 ∷ 21 ∷ []) $ free1 ! $ move ! (18 ∷ 19 ∷ []) $ free1 ! $ move ! (0 ∷ 17 ∷ []) $ free1 ! $ move ! (0 ∷ 15 ∷ []) $ free1 ! $
         move ! (6 ∷ 13 ∷ []) $ free1 ! $ move ! (5 ∷ 11 ∷ []) $ free1 ! $ move ! (4 ∷ 9 ∷ []) $ free1 ! $ move ! (3 ∷ 7 ∷ []) $ free1 ! $ move ! (2 ∷ 5 ∷ []) $ free1 ! $ move ! (1 ∷ 3 ∷ []) $ free1 ! $ free1 ! $ free0 ! $
-        by ! (exits p₇ sound₇ (e₇ ∙ ap (recordAfterAct 2 (spend side.draw) 2) (e₆ ∙ ap (recordAfterAct 1 (spend side.draw) 4) (e₅ ∙ ap (recordAfterAct 0 (spend side.draw) 5)
-        (e₄ ∙ ap (recordAfterAct 0 (give side.draw 2) 10) (e₃ ∙ ap (recordAfterAct 0 (give side.draw 1) 10) (e₂ ∙ ap (recordAfterAct 1 (spend side.tip) 1) e₁)))))))))))))))))))))))))
+        by ! (exits p₇ sound₇ (e₇ ∙ ap (record_after_act 2 (spend side.draw) 2) (e₆ ∙ ap (record_after_act 1 (spend side.draw) 4) (e₅ ∙ ap (record_after_act 0 (spend side.draw) 5)
+        (e₄ ∙ ap (record_after_act 0 (give side.draw 2) 10) (e₃ ∙ ap (record_after_act 0 (give side.draw 1) 10) (e₂ ∙ ap (record_after_act 1 (spend side.tip) 1) e₁)))))))))))))))))))))))))
 
 module _ {M : Type 1} {𝓤 : Ura M} (𝓛 : Logic 𝓤) (mem : Memory → SProp 𝓤) (run : Routine → Fun 𝓤) where
   open 𝓛 use {H}
@@ -129,9 +129,9 @@ module _ {M : Type 1} {𝓤 : Ura M} (𝓛 : Logic 𝓤) (mem : Memory → SProp
       walk_Meets 𝓛 worked.ended stayed (Goes-dropped 𝓛 0 (plain (λ _. P.the_row)) yes (λ κs x f. refl), tt) (worked.clauses 𝓛 mem run) (WpFn 𝓤 H 𝓣.C 𝓣.Λ code.function)
       (WpFn-mono 𝓤 H 𝓛.laws 𝓣 code.function) (walks 𝓣.C 𝓣.Λ (fm_of 𝓤 H 𝓛.laws 𝓣) known-tips known-draws known-gives)
 
-pub worked-spec : {M : Type 1} → stated.statement M
+pub worked_spec : {M : Type 1} → stated.statement M
 unfolding code.routine tables_of
-worked-spec 𝓤 𝓛 𝓜 𝓡 =
+worked_spec 𝓤 𝓛 𝓜 𝓡 =
     entered 𝓤 𝓛.H (triple_of 𝓛 worked.signature (worked.spec 𝓛 𝓜.mem 𝓡.run))
     (tables 𝓤 𝓛.H 𝓜 𝓡 code.env).C (tables 𝓤 𝓛.H 𝓜 𝓡 code.env).Λ #worked code.function (code.unfolded 𝓤 𝓛.H 𝓜 𝓡)
     (meets 𝓛 𝓜.mem 𝓡.run (tables_of 𝓤 𝓛.H 𝓜 (tables 𝓤 𝓛.H 𝓜 𝓡 code.env))

@@ -8,7 +8,7 @@ use mathlib.Core.List.{[], ◌∷◌}
 use denote.Struct.Laws as LL
 use Rattle.lent.proofs.contents.Symbol as callee
 use Rattle.lent.proofs.contents.Met.{met}
-use Rattle.lent_vectors.proofs.OnList.{Back, list-val, list-field, listed-meets}
+use Rattle.lent_vectors.proofs.OnList.{Back, list_val, list_field, listed_meets}
 use Rattle.lent_vectors.specs.contracts.contents.Listing as S
 use Rattle.lent_vectors.proofs.contents.Listing.TheLaws as S'
 use Rattle.lent_vectors.specs.contracts.contents.filled.Key.{name}
@@ -22,15 +22,15 @@ back = record {
   answer = λ r. r.answer;
   entries = λ r. r.entries;
   both = λ x es. record { answer = x; entries = es };
-  answer-of = λ x es. refl;
-  entries-of = λ x es. refl;
-  is = λ x es is are. ((vint w8 x ∷ [], (list-val es ∷ [], tt)), (refl, (is, (list-field 34 es _ are, tt))));
+  answer_of = λ x es. refl;
+  entries_of = λ x es. refl;
+  is = λ x es is are. ((vint w8 x ∷ [], (list_val es ∷ [], tt)), (refl, (is, (list_field 34 es _ are, tt))));
   typed = λ 𝓛 d v is. ((LL.lawful S.the_type S'.the_laws 𝓛).typed d _ is).0;
   makes = λ 𝓛. LL.makes S.the_type S'.the_plain 𝓛;
 }
 
-pub filled-spec : {M : Type 1} → statement M
+pub filled_spec : {M : Type 1} → statement M
 unfolding code.routine
-filled-spec 𝓤 𝓛 𝓜 𝓡 =
-    listed-meets 34 back tt (lit< tt, lit< tt) 𝓛 𝓜 𝓡 code.env name callee.routine (code.unfolded 𝓤 𝓛.H 𝓜 𝓡)
+filled_spec 𝓤 𝓛 𝓜 𝓡 =
+    listed_meets 34 back tt (lit< tt, lit< tt) 𝓛 𝓜 𝓡 code.env name callee.routine (code.unfolded 𝓤 𝓛.H 𝓜 𝓡)
     code.calls-lent::contents (met 𝓤 𝓛 𝓜 𝓡)

@@ -4,14 +4,14 @@ use Prim.Native.Nat.{◌+◌, ◌-◌, ◌*◌, ◌≤◌, ◌<◌}
 use native.Mathlib.Omega.{arith}
 use mathlib.Core.Path.{◌≡◌, refl}
 use lib.ListN.{length, get_or}
-use Rattle.rules.specs.Layout.{headFor, entry_at}
+use Rattle.rules.specs.Layout.{head_for, entry_at}
 use Rattle.rules.specs.Opening.{given}
-use Rattle.rules.proofs.Loops.Writing.{Written, none_written, next-written, all-written}
-use Rattle.rules.proofs.File.Rising.{number-most}
-use Rattle.rules.proofs.File.Positions.{entry-within}
-use Rattle.rules.proofs.File.Front.{length-entry}
-use Rattle.opening.proofs.GivenList.{pile-in-list, pile-there, given-number}
-use Rattle.opening.proofs.Opened.{entry, put-entry}
+use Rattle.rules.proofs.Loops.Writing.{Written, none_written, next_written, all_written}
+use Rattle.rules.proofs.File.Rising.{number_most}
+use Rattle.rules.proofs.File.Positions.{entry_within}
+use Rattle.rules.proofs.File.Front.{length_entry}
+use Rattle.opening.proofs.GivenList.{pile_in_list, pile_there, given_number}
+use Rattle.opening.proofs.Opened.{entry, put_entry}
 use borrow.Author.Rules.{rules}
 use Rattle.opening.proofs.front.put_contents.Statement.{statement}
 use Rattle.opening.proofs.front.put_contents.Tie as tie
@@ -38,17 +38,17 @@ module _ (c : tie.In-loop invariant-loop decreases-loop) where
 
   there : at.loop.k * (sized at).given-length.result + (3 + 2 * begin.args.n) ≤ length begin.args.numbers.now
   there =
-      pile-there begin.args.n at.loop.k (sized at).given-length.ensures
-      (pile-in-list begin.pre.openings.in_list c.loop-test.true)
+      pile_there begin.args.n at.loop.k (sized at).given-length.ensures
+      (pile_in_list begin.pre.openings.in_list c.loop-test.true)
 
   number_is : get_or begin.args.numbers.now (at.loop.k * (sized at).given-length.result) 0 ≡ given begin.args.n begin.args.numbers.now at.loop.k 0
-  number_is = given-number begin.args.n at.loop.k (sized at).given-length.ensures begin.args.numbers.now
+  number_is = given_number begin.args.n at.loop.k (sized at).given-length.ensures begin.args.numbers.now
 
   number_short : get_or begin.args.numbers.now (at.loop.k * (sized at).given-length.result) 0 < 65536
-  number_short = rw number_is (number-most _ _ begin.pre.rises at.loop.k c.loop-test.true)
+  number_short = rw number_is (number_most _ _ begin.pre.rises at.loop.k c.loop-test.true)
 
   room : entry_at at.loop.k + 6 ≤ length at.loop.out
-  room = omega (arith, entry-within (headFor begin.args.n begin.args.p) at.loop.k c.loop-test.true)
+  room = omega (arith, entry_within (head_for begin.args.n begin.args.p) at.loop.k c.loop-test.true)
 
 head-for-requires : tie.Need-head-for-requires invariant-loop decreases-loop
 head-for-requires c κs = search rules
@@ -88,18 +88,18 @@ loop-again c =
     let put = c.before.before in
     let now = put.before.before.before in
     let s = start now.before in
-    next-written 6 (λ j _. length-entry (headFor s.args.n s.args.p) _ j) now.before.loop.invariant now.loop-test.true refl
-    (put-entry s.args.n s.args.p s.args.numbers.now _ now.before.loop.k s.pre.openings.desks-least s.pre.openings.in_list.desks-most
+    next_written 6 (λ j _. length_entry (head_for s.args.n s.args.p) _ j) now.before.loop.invariant now.loop-test.true refl
+    (put_entry s.args.n s.args.p s.args.numbers.now _ now.before.loop.k s.pre.openings.desks_least s.pre.openings.in_list.desks_most
     (room now) (sized now.before).before.head-for.ensures (number_is now) put.put-entry.ensures.1)
 
 same_length : tie.Need-same-length invariant-loop decreases-loop
 same_length c = search rules
 
 returns : tie.Need-returns invariant-loop decreases-loop
-returns c = all-written c.before.loop.invariant (omega arith)
+returns c = all_written c.before.loop.invariant (omega arith)
 
-pub put-contents-spec : {M : Type 1} → statement M
-put-contents-spec =
+pub put_contents_spec : {M : Type 1} → statement M
+put_contents_spec =
     tie.close
     (tie.spec
     invariant-loop

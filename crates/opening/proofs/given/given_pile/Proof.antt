@@ -3,9 +3,9 @@
 use Prim.Native.Nat.{◌+◌, ◌*◌, ◌≤◌}
 use mathlib.Core.Path.{refl, sym, ◌∙◌}
 use lib.ListN.{length}
-use Rattle.rules.specs.Opening.{givenPile}
-use Rattle.rules.proofs.Record.Fresh.{fresh-answer, fresh-record}
-use Rattle.opening.proofs.GivenList.{pile-there, given-at}
+use Rattle.rules.specs.Opening.{given_pile}
+use Rattle.rules.proofs.Record.Fresh.{fresh_answer_lem, fresh_record_lem}
+use Rattle.opening.proofs.GivenList.{pile_there, given_at}
 use borrow.Author.Rules.{rules}
 use Rattle.opening.proofs.given.given_pile.Statement.{statement}
 use Rattle.opening.proofs.given.given_pile.Tie as tie
@@ -15,7 +15,7 @@ start c = c.before.before.before
 
 -- the pile's numbers are in the list
 there : (c : tie.After-given-length) → let a = (start c).args in a.k * c.given-length.result + (3 + 2 * a.n) ≤ length a.numbers.now
-there c = let a = (start c).args in pile-there a.n a.k c.given-length.ensures (start c).requires.in_list
+there c = let a = (start c).args in pile_there a.n a.k c.given-length.ensures (start c).requires.in_list
 
 given-shares-requires : tie.Need-given-shares-requires
 given-shares-requires c κs = search rules
@@ -48,19 +48,19 @@ fresh-requires : tie.Need-fresh-requires
 fresh-requires c κs = search rules
 
 returns : tie.Need-returns
-unfolding givenPile
+unfolding given_pile
 returns c =
     let sized = c.before.before.before in
     let s = start sized in
-    let number = given-at s.args.n s.args.k sized.given-length.ensures s.args.numbers.now in
+    let number = given_at s.args.n s.args.k sized.given-length.ensures s.args.numbers.now in
     let shares = sized.before.given-shares.ensures in
     let fresh = rw (number 1, number 2) at c.fresh.ensures in (
-      fresh.0 ∙ fresh-answer _ _ (λ s i. refl) (λ s i j. refl) shares s.pre.desks-least s.pre.in_list.desks-most,
-      λ z. fresh.1 ∙ fresh-record _ _ (λ s i. refl) (λ s i j. refl) shares (sym fresh.0 ∙ z),
+      fresh.0 ∙ fresh_answer_lem _ _ (λ s i. refl) (λ s i j. refl) shares s.pre.desks_least s.pre.in_list.desks_most,
+      λ z. fresh.1 ∙ fresh_record_lem _ _ (λ s i. refl) (λ s i j. refl) shares (sym fresh.0 ∙ z),
     )
 
-pub given-pile-spec : {M : Type 1} → statement M
-given-pile-spec =
+pub given_pile_spec : {M : Type 1} → statement M
+given_pile_spec =
     tie.close
     (tie.spec
     given-shares-requires

@@ -4,9 +4,9 @@ use Prim.Native.Nat.{ℕ, ◌+◌, ◌*◌, ◌≤◌}
 use native.Mathlib.Omega.{arith}
 use mathlib.Core.Path.{◌≡◌, ap, ◌∙◌}
 use lib.ListN.{length, get_or}
-use Rattle.rules.specs.Opening.{given, givenPile}
-use Rattle.opening.proofs.GivenList.{pile-there, given-at}
-use Rattle.opening.proofs.GivenShares.{copied-shares}
+use Rattle.rules.specs.Opening.{given, given_pile}
+use Rattle.opening.proofs.GivenList.{pile_there, given_at}
+use Rattle.opening.proofs.GivenShares.{copied_shares}
 use borrow.Author.Rules.{rules}
 use Rattle.opening.proofs.given.given_shares.Statement.{statement}
 use Rattle.opening.proofs.given.given_shares.Tie as tie
@@ -16,7 +16,7 @@ start c = c.before.before
 
 -- the pile's numbers are in the list
 there : (c : tie.After-given-length) → let a = (start c).args in a.k * c.given-length.result + (3 + 2 * a.n) ≤ length a.numbers.now
-there c = let a = (start c).args in pile-there a.n a.k c.given-length.ensures (start c).requires
+there c = let a = (start c).args in pile_there a.n a.k c.given-length.ensures (start c).requires
 
 given-length-requires : tie.Need-given-length-requires
 given-length-requires c κs = search rules
@@ -43,7 +43,7 @@ copy-run-requires-2 : tie.Need-copy-run-requires-2
 copy-run-requires-2 c κs = search rules
 
 returns : tie.Need-returns
-unfolding givenPile
+unfolding given_pile
 returns c =
     let two = c.before in
     let one = two.before.before.before in
@@ -51,12 +51,12 @@ returns c =
     let a = (start sized).args in
     let place : ℕ = a.k * sized.given-length.result in
     let at : (i j : ℕ) → i ≡ place + j → get_or a.numbers.now i 0 ≡ given a.n a.numbers.now a.k j =
-    λ i j e. ap (λ (i : ℕ). get_or a.numbers.now i 0) e ∙ given-at a.n a.k sized.given-length.ensures a.numbers.now j in
-    copied-shares a.n (givenPile a.n a.numbers.now a.k) a.numbers.now (place + 3) (start sized).requires.desks-most (omega (arith, there sized))
+    λ i j e. ap (λ (i : ℕ). get_or a.numbers.now i 0) e ∙ given_at a.n a.k sized.given-length.ensures a.numbers.now j in
+    copied_shares a.n (given_pile a.n a.numbers.now a.k) a.numbers.now (place + 3) (start sized).requires.desks_most (omega (arith, there sized))
     (λ j. at _ (1 + (2 + j)) (omega arith)) (λ j. at _ (1 + (2 + (a.n + j))) (omega arith)) one.copy_run.ensures.1 two.copy-run2.ensures.1
 
-pub given-shares-spec : {M : Type 1} → statement M
-given-shares-spec =
+pub given_shares_spec : {M : Type 1} → statement M
+given_shares_spec =
     tie.close
     (tie.spec
     given-length-requires

@@ -5,19 +5,19 @@ use native.Mathlib.Omega.{arith}
 use mathlib.Core.Path.{◌≡◌}
 use lib.ListN.{length}
 use Rattle.rules.specs.Numbers.{encode}
-use Rattle.rules.specs.Layout.{rowLength}
+use Rattle.rules.specs.Layout.{row_length}
 use Rattle.rules.proofs.File.Body.{row_within}
-use Rattle.rules.proofs.Loops.Writing.{Written, none_written, next-written, all-written}
-use Rattle.padding.specs.Inner.{packedRow}
-use Rattle.padding.proofs.PackedRows.{length-packed-row, pack-runs}
-use Rattle.padding.proofs.Halves.{front-is, tips-at, size_is, row-behind}
+use Rattle.rules.proofs.Loops.Writing.{Written, none_written, next_written, all_written}
+use Rattle.padding.specs.Inner.{packed_row}
+use Rattle.padding.proofs.PackedRows.{length_packed_row, pack_runs}
+use Rattle.padding.proofs.Halves.{front_is, tips_at, size_is, row_behind}
 use borrow.Author.Rules.{rules}
 use Rattle.padding.proofs.packed.pack_rows.Statement.{statement}
 use Rattle.padding.proofs.packed.pack_rows.Tie as tie
 
 abbrev invariant-loop : tie.invariant-loop
 invariant-loop before at numbers n front tips size desks to₀ r₀ now to r =
-    (to ≡ at + r * (8 * (n + 1))) × Written before at (suc n) (λ j. encode (packedRow n numbers j)) r now
+    (to ≡ at + r * (8 * (n + 1))) × Written before at (suc n) (λ j. encode (packed_row n numbers j)) r now
 
 abbrev decreases-loop : tie.decreases-loop
 decreases-loop before at numbers n front tips size desks to₀ r₀ now to r = suc n - r
@@ -30,18 +30,18 @@ turn c = c.before.before.before.before.before
 
 -- the numbers that the loop goes by
 module _ (c : tie.At-loop invariant-loop decreases-loop) where
-  front-size : c.before.before.before.side-column.result ≡ 2 + (start c).args.n
-  front-size = front-is (start c).args.n c.before.before.before.side-column.ensures
+  front_size : c.before.before.before.side-column.result ≡ 2 + (start c).args.n
+  front_size = front_is (start c).args.n c.before.before.before.side-column.ensures
 
-  tips-place : c.before.before.Cell-at.result ≡ 8 + 4 * (start c).args.n
-  tips-place = tips-at (start c).args.n c.before.before.before.side-column.ensures c.before.before.Cell-at.ensures
+  tips_place_lem : c.before.before.Cell-at.result ≡ 8 + 4 * (start c).args.n
+  tips_place_lem = tips_at (start c).args.n c.before.before.before.side-column.ensures c.before.before.Cell-at.ensures
 
-  row-size : c.before.row-length.result ≡ 8 * ((start c).args.n + 1)
-  row-size = size_is (start c).args.n c.before.row-length.ensures
+  row_size : c.before.row-length.result ≡ 8 * ((start c).args.n + 1)
+  row_size = size_is (start c).args.n c.before.row-length.ensures
 
 -- the row of this turn has its place
 room : (c : tie.In-loop invariant-loop decreases-loop) → let a = (start c.before).args in c.before.loop.to + 8 * (a.n + 1) ≤ length a.bytes.now
-unfolding rowLength
+unfolding row_length
 room c =
     omega (arith, c.before.loop.invariant.0, row_within (start c.before).args.n c.before.loop.r (omega arith), (start c.before).pre.within)
 
@@ -67,19 +67,19 @@ cast-pack-run : tie.Need-overflow-cast-pack-run invariant-loop decreases-loop
 cast-pack-run c = search rules
 
 pack-run-requires : tie.Need-pack-run-requires invariant-loop decreases-loop
-pack-run-requires c κs = search (rules, room c.before, front-size c.before.before)
+pack-run-requires c κs = search (rules, room c.before, front_size c.before.before)
 
 add-pack-run : tie.Need-overflow-add-pack-run invariant-loop decreases-loop
-add-pack-run c = search (rules, room (turn c), tips-place (turn c).before)
+add-pack-run c = search (rules, room (turn c), tips_place_lem (turn c).before)
 
 add-pack-run-2 : tie.Need-overflow-add-pack-run-2 invariant-loop decreases-loop
 add-pack-run-2 c = search rules
 
 pack-run-requires-2 : tie.Need-pack-run-requires-2 invariant-loop decreases-loop
-pack-run-requires-2 c κs = search (rules, room (turn c), tips-place (turn c).before)
+pack-run-requires-2 c κs = search (rules, room (turn c), tips_place_lem (turn c).before)
 
 add-to : tie.Need-overflow-add-to invariant-loop decreases-loop
-add-to c = let now = turn c.before.before.before in search (rules, room now, row-size now.before)
+add-to c = let now = turn c.before.before.before in search (rules, room now, row_size now.before)
 
 add_r : tie.Need-overflow-add-r invariant-loop decreases-loop
 add_r c = search rules
@@ -93,19 +93,19 @@ loop-again c =
     let now = turn last.before in
     let at = now.before in
     let args = (start at).args in (
-      row-behind args.at at.loop.r (8 * (args.n + 1)) at.loop.inv.0 (row-size at),
-      next-written _ (λ j _. length-packed-row args.n args.numbers.now j) at.loop.inv.1 (omega arith) at.loop.inv.0
-          (pack-runs _ _ args.n _ _ (front-size at) (tips-place at) last.before.before.before.before.pack-run.ensures last.pack-run2.ensures),
+      row_behind args.at at.loop.r (8 * (args.n + 1)) at.loop.inv.0 (row_size at),
+      next_written _ (λ j _. length_packed_row args.n args.numbers.now j) at.loop.inv.1 (omega arith) at.loop.inv.0
+          (pack_runs _ _ args.n _ _ (front_size at) (tips_place_lem at) last.before.before.before.before.pack-run.ensures last.pack-run2.ensures),
     )
 
 same_length : tie.Need-same-length invariant-loop decreases-loop
 same_length c = search rules
 
 returns : tie.Need-returns invariant-loop decreases-loop
-returns c = all-written c.before.loop.invariant.1 (omega arith)
+returns c = all_written c.before.loop.invariant.1 (omega arith)
 
-pub pack-rows-spec : {M : Type 1} → statement M
-pack-rows-spec =
+pub pack_rows_spec : {M : Type 1} → statement M
+pack_rows_spec =
     tie.close
     (tie.spec
     invariant-loop

@@ -5,9 +5,9 @@ use native.Mathlib.Omega.{arith}
 use mathlib.Core.Path.{refl}
 use lib.ListN.{get_or}
 use Rattle.rules.specs.Numbers.{bytes}
-use Rattle.rules.proofs.Bytes.Numbers.{length-bytes, encode-list}
-use Rattle.rules.proofs.Loops.Writing.{Written, none_written, next-written, all-written}
-use Rattle.padding.proofs.Parts.{put-in-part}
+use Rattle.rules.proofs.Bytes.Numbers.{length_bytes, encode_list}
+use Rattle.rules.proofs.Loops.Writing.{Written, none_written, next_written, all_written}
+use Rattle.padding.proofs.Parts.{put_in_part}
 use borrow.Author.Rules.{rules}
 use Rattle.padding.proofs.packed.pack_run.Statement.{statement}
 use Rattle.padding.proofs.packed.pack_run.Tie as tie
@@ -63,17 +63,17 @@ loop-again c =
     let turn = put.before.before.before in
     let loop = turn.before in
     let to : ℕ = loop.before.before.before.args.at + loop.loop.k * 4 in
-    next-written 4 (λ j _. length-bytes 4 _) loop.loop.invariant turn.loop-test.true refl
-    (put-in-part loop.loop.bytes to (to + 4 - to) _ put.put4.ensures.1 (omega arith) (omega (arith, loop.loop.invariant.long)))
+    next_written 4 (λ j _. length_bytes 4 _) loop.loop.invariant turn.loop-test.true refl
+    (put_in_part loop.loop.bytes to (to + 4 - to) _ put.put4.ensures.1 (omega arith) (omega (arith, loop.loop.invariant.long)))
 
 same_length : tie.Need-same-length invariant-loop decreases-loop
 same_length c = search rules
 
 returns : tie.Need-returns invariant-loop decreases-loop
-returns c = rw encode-list (all-written c.before.loop.invariant (omega arith))
+returns c = rw encode_list (all_written c.before.loop.invariant (omega arith))
 
-pub pack-run-spec : {M : Type 1} → statement M
-pack-run-spec =
+pub pack_run_spec : {M : Type 1} → statement M
+pack_run_spec =
     tie.close
     (tie.spec
     invariant-loop

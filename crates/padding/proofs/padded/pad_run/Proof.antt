@@ -5,7 +5,7 @@ use native.Mathlib.Omega.{arith}
 use mathlib.Core.List.{[], ◌∷◌}
 use Rattle.rules.specs.Numbers.{number}
 use Rattle.rules.proofs.Bytes.Numbers.{number_read}
-use Rattle.rules.proofs.Loops.Writing.{Written, none_written, next-number, all-numbers}
+use Rattle.rules.proofs.Loops.Writing.{Written, none_written, next_number_lem, all_numbers}
 use borrow.Author.Rules.{rules}
 use Rattle.padding.proofs.padded.pad_run.Statement.{statement}
 use Rattle.padding.proofs.padded.pad_run.Tie as tie
@@ -60,16 +60,16 @@ loop-again c =
     let at : tie.At-loop invariant-loop decreases-loop = c.before.before.before in
     let a = at.before.before.before.args in
     let from : ℕ = a.from + at.loop.k * 4 in
-    rw (number_read 4 a.bytes.now from c.get4.ensures) (next-number at.loop.invariant c.before.before.loop-test.true)
+    rw (number_read 4 a.bytes.now from c.get4.ensures) (next_number_lem at.loop.invariant c.before.before.loop-test.true)
 
 same_length : tie.Need-same-length invariant-loop decreases-loop
 same_length c = search rules
 
 returns : tie.Need-returns invariant-loop decreases-loop
-returns c = all-numbers c.before.loop.invariant (omega arith)
+returns c = all_numbers c.before.loop.invariant (omega arith)
 
-pub pad-run-spec : {M : Type 1} → statement M
-pad-run-spec =
+pub pad_run_spec : {M : Type 1} → statement M
+pad_run_spec =
     tie.close
     (tie.spec
     invariant-loop

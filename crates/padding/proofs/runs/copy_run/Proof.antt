@@ -8,10 +8,10 @@ use lib.ListN.{length, get_or}
 use lib.Seq.{sets}
 use borrow.Author.Rules.{rules}
 use Rattle.rules.specs.Loops.{list}
-use Rattle.rules.proofs.Loops.Pieces.{length-list, getD-list}
-use Rattle.rules.proofs.Loops.Parts.{part-is}
-use Rattle.rules.proofs.Loops.Writing.{Written, none_written, next-number, all-numbers}
-use Rattle.padding.proofs.CopyLines.{copy-3, copy-8, copied}
+use Rattle.rules.proofs.Loops.Pieces.{length_list, getD_list}
+use Rattle.rules.proofs.Loops.Parts.{part_is}
+use Rattle.rules.proofs.Loops.Writing.{Written, none_written, next_number_lem, all_numbers}
+use Rattle.padding.proofs.CopyLines.{copy_3, copy_8, copied}
 use Rattle.padding.proofs.runs.copy_run.Statement.{statement}
 use Rattle.padding.proofs.runs.copy_run.Tie as tie
 
@@ -32,22 +32,22 @@ room : (c : tie.Else4 invariant-loop decreases-loop) → let a = c.before.before
 room c = omega (arith, c.before.if3.false, c.if4.false)
 
 returns : tie.Need-returns invariant-loop decreases-loop
-returns c = copy-3 _ _ _ _ _ (omega (arith, c.if1.true))
+returns c = copy_3 _ _ _ _ _ (omega (arith, c.if1.true))
 
 sub-if2 : tie.Need-overflow-sub-if2 invariant-loop decreases-loop
 sub-if2 c = search rules
 
 returns-2 : tie.Need-returns-2 invariant-loop decreases-loop
-returns-2 c = copy-3 _ _ _ _ _ (omega (arith, c.before.if1.false, c.if2.true))
+returns-2 c = copy_3 _ _ _ _ _ (omega (arith, c.before.if1.false, c.if2.true))
 
 returns-3 : tie.Need-returns-3 invariant-loop decreases-loop
-returns-3 c = copy-8 _ _ _ _ _ (there c.before) (omega (arith, c.if3.true))
+returns-3 c = copy_8 _ _ _ _ _ (there c.before) (omega (arith, c.if3.true))
 
 sub-if4 : tie.Need-overflow-sub-if4 invariant-loop decreases-loop
 sub-if4 c = search rules
 
 returns-4 : tie.Need-returns-4 invariant-loop decreases-loop
-returns-4 c = copy-8 _ _ _ _ _ (there c.before.before) (omega (arith, c.before.if3.false, c.if4.true))
+returns-4 c = copy_8 _ _ _ _ _ (there c.before.before) (omega (arith, c.before.if3.false, c.if4.true))
 
 loop-holds : tie.Need-loop-init invariant-loop decreases-loop
 loop-holds c = none_written
@@ -77,7 +77,7 @@ loop-less : tie.Need-loop-smaller invariant-loop decreases-loop
 loop-less c = search rules
 
 loop-again : tie.Need-loop-preserved invariant-loop decreases-loop
-loop-again c = next-number c.before.before.loop.invariant c.before.loop-test.true
+loop-again c = next_number_lem c.before.before.loop.invariant c.before.loop-test.true
 
 same_length : tie.Need-same-length invariant-loop decreases-loop
 same_length c = search rules
@@ -89,12 +89,12 @@ returns-5 c =
     let a = two.before.before.args in
     let run = number a.numbers.now a.from in
     copied _ _ _ _ _ (there two) (room four)
-    (all-numbers c.before.loop.invariant (omega arith)
-    ∙ ap (sets a.out.now a.to) (sym (part-is a.from a.count a.numbers.now (list a.count run) (there two) (length-list a.count run)
-    (λ j l. sym (getD-list a.count run 0 j l)))))
+    (all_numbers c.before.loop.invariant (omega arith)
+    ∙ ap (sets a.out.now a.to) (sym (part_is a.from a.count a.numbers.now (list a.count run) (there two) (length_list a.count run)
+    (λ j l. sym (getD_list a.count run 0 j l)))))
 
-pub copy-run-spec : {M : Type 1} → statement M
-copy-run-spec =
+pub copy_run_spec : {M : Type 1} → statement M
+copy_run_spec =
     tie.close
     (tie.spec
     invariant-loop

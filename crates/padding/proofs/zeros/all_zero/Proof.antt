@@ -9,7 +9,7 @@ use lib.Dec.{eqb}
 use borrow.Author.Tests.{eq-eqb, ne_eqb}
 use borrow.Author.Rules.{rules}
 use Rattle.rules.specs.Loops.{every}
-use Rattle.rules.proofs.Loops.Every.{every_more, every-stops}
+use Rattle.rules.proofs.Loops.Every.{every_more, every_stops}
 use Rattle.padding.proofs.zeros.all_zero.Statement.{statement}
 use Rattle.padding.proofs.zeros.all_zero.Tie as tie
 
@@ -42,7 +42,7 @@ loop-again : tie.Need-loop-preserved invariant-loop decreases-loop
 loop-again c =
     let loop = c.before.before.before.loop in (
       search rules,
-      ⊎_elim (λ w. w.1 ∙ sym (every-stops _ _ loop.k (omega arith) (ne_eqb _ 0 w.0.taken)))
+      ⊎_elim (λ w. w.1 ∙ sym (every_stops _ _ loop.k (omega arith) (ne_eqb _ 0 w.0.taken)))
           (λ w. w.1 ∙ loop.invariant.1 ∙ sym (every_more _ _ (eq-eqb _ 0 w.0.left))) c.if1.branch,
     )
 
@@ -51,8 +51,8 @@ returns c =
     let done : c.before.loop.k ≡ c.before.before.args.count = omega arith in
     rw done at c.before.loop.invariant.1
 
-pub all-zero-spec : {M : Type 1} → statement M
-all-zero-spec =
+pub all_zero_spec : {M : Type 1} → statement M
+all_zero_spec =
     tie.close
     (tie.spec
     invariant-loop

@@ -2,7 +2,7 @@
 -- Assumes nothing.
 use mathlib.Core.Path.{sym, ◌∙◌}
 use borrow.Author.Rules.{rules}
-use Rattle.rules.proofs.Loops.Logic.{holds, fails, and-left-fails, and-left-holds}
+use Rattle.rules.proofs.Loops.Logic.{holds, fails, and_left_fails, and_left_holds}
 use Rattle.padding.proofs.zeros.row_padding_zero.Statement.{statement}
 use Rattle.padding.proofs.zeros.row_padding_zero.Tie as tie
 
@@ -19,7 +19,7 @@ all-zero-requires : tie.Need-all-zero-requires
 all-zero-requires c κs = search rules
 
 returns : tie.Need-returns
-returns c = sym (and-left-fails (fails c.before.all-zero.ensures c.if1.true) _)
+returns c = sym (and_left_fails (fails c.before.all-zero.ensures c.if1.true) _)
 
 add-all-zero-3 : tie.Need-overflow-add-all-zero-3
 add-all-zero-3 c = search rules
@@ -34,10 +34,10 @@ all-zero-requires-2 : tie.Need-all-zero-requires-2
 all-zero-requires-2 c κs = search rules
 
 returns-2 : tie.Need-returns-2
-returns-2 c = c.all-zero2.ensures ∙ and-left-holds (holds c.before.before.all-zero.ensures c.before.if1.false) _
+returns-2 c = c.all-zero2.ensures ∙ and_left_holds (holds c.before.before.all-zero.ensures c.before.if1.false) _
 
-pub row-padding-zero-spec : {M : Type 1} → statement M
-row-padding-zero-spec =
+pub row_padding_zero_spec : {M : Type 1} → statement M
+row_padding_zero_spec =
     tie.close
     (tie.spec
     add-all-zero

@@ -6,14 +6,14 @@ use mathlib.Core.Path.{◌≡◌, refl, sym, ◌∙◌}
 use mathlib.Core.Bool.{true}
 use borrow.Author.Rules.{rules}
 use Rattle.rules.specs.Loops.{every}
-use Rattle.rules.proofs.Loops.Logic.{holds, fails, and-left-fails, and-left-holds}
-use Rattle.rules.proofs.Loops.Every.{every-next, every-stops}
-use Rattle.padding.proofs.Unused.{rowPadding, row_at, unused-places}
+use Rattle.rules.proofs.Loops.Logic.{holds, fails, and_left_fails, and_left_holds}
+use Rattle.rules.proofs.Loops.Every.{every_next, every_stops}
+use Rattle.padding.proofs.Unused.{row_padding, row_at, unused_places_lem}
 use Rattle.padding.proofs.zeros.rows_padding_zero.Statement.{statement}
 use Rattle.padding.proofs.zeros.rows_padding_zero.Tie as tie
 
 abbrev invariant-loop : tie.invariant-loop
-invariant-loop numbers n i₀ i = (i ≤ n) × (every i (λ j. rowPadding numbers n (row_at j)) ≡ true)
+invariant-loop numbers n i₀ i = (i ≤ n) × (every i (λ j. row_padding numbers n (row_at j)) ≡ true)
 
 abbrev decreases-loop : tie.decreases-loop
 decreases-loop numbers n i₀ i = n - i
@@ -37,8 +37,8 @@ row-padding-zero-requires c κs = search rules
 returns : tie.Need-returns invariant-loop decreases-loop
 returns c =
     sym
-    (sym (unused-places _ _ (search rules))
-    ∙ and-left-fails (every-stops _ _ c.before.before.before.loop.i (search rules) (fails c.before.row-padding-zero.ensures c.if1.true)) _)
+    (sym (unused_places_lem _ _ (search rules))
+    ∙ and_left_fails (every_stops _ _ c.before.before.before.loop.i (search rules) (fails c.before.row-padding-zero.ensures c.if1.true)) _)
 
 add-i : tie.Need-overflow-add-i invariant-loop decreases-loop
 add-i c = search rules
@@ -48,7 +48,7 @@ loop-less c = search rules
 
 loop-again : tie.Need-loop-preserved invariant-loop decreases-loop
 loop-again c =
-    (search rules, every-next _ _ c.before.before.before.loop.invariant.1 (holds c.before.row-padding-zero.ensures c.if1.false))
+    (search rules, every_next _ _ c.before.before.before.loop.invariant.1 (holds c.before.row-padding-zero.ensures c.if1.false))
 
 add-all-zero : tie.Need-overflow-add-all-zero invariant-loop decreases-loop
 add-all-zero c = search rules
@@ -71,10 +71,10 @@ all-zero-requires c κs = search rules
 returns-2 : tie.Need-returns-2 invariant-loop decreases-loop
 returns-2 c =
     let done : c.before.before.loop.i ≡ c.before.before.before.before.args.n = omega arith in
-    c.all-zero.ensures ∙ and-left-holds (rw done at c.before.before.loop.invariant.1) _ ∙ unused-places _ _ (search rules)
+    c.all-zero.ensures ∙ and_left_holds (rw done at c.before.before.loop.invariant.1) _ ∙ unused_places_lem _ _ (search rules)
 
-pub rows-padding-zero-spec : {M : Type 1} → statement M
-rows-padding-zero-spec =
+pub rows_padding_zero_spec : {M : Type 1} → statement M
+rows_padding_zero_spec =
     tie.close
     (tie.spec
     invariant-loop

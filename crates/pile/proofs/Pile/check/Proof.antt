@@ -2,9 +2,9 @@
 -- Assumes nothing.
 use mathlib.Core.Path.{ap, ◌∙◌}
 use borrow.Author.Rules.{rules}
-use Rattle.padding.specs.Lists.{listAnswer}
-use Rattle.pile.specs.View.{asRecord}
-use Rattle.pile.proofs.Packed.{list-answer}
+use Rattle.padding.specs.Lists.{list_answer}
+use Rattle.pile.specs.View.{as_record}
+use Rattle.pile.proofs.Packed.{list_answer_lem}
 use Rattle.pile.proofs.Pile.check.Statement.{statement}
 use Rattle.pile.proofs.Pile.check.Tie as tie
 
@@ -20,10 +20,10 @@ check-record-requires c κs = search rules
 returns : tie.Need-returns
 returns c =
     let start = c.before.before.before in
-    c.check-record.ensures ∙ ap listAnswer c.before.before.Numbers-of.ensures
-    ∙ list-answer (asRecord start.args.self) (record { shares-long = search rules; tallies-long = search rules })
+    c.check-record.ensures ∙ ap list_answer c.before.before.Numbers-of.ensures
+    ∙ list_answer_lem (as_record start.args.self) (record { shares_long = search rules; tallies_long = search rules })
 
-pub check-spec : {M : Type 1} → statement M
-check-spec =
+pub check_spec : {M : Type 1} → statement M
+check_spec =
     tie.close
     (tie.spec numbers-of-requires slice-aggregate-check-record check-record-requires returns)

@@ -5,8 +5,8 @@ use Rattle.pile.proofs.acts.enter.Statement.{statement}
 use Rattle.pile.proofs.acts.enter.Tie as tie
 use native.Mathlib.Omega.{arith}
 use mathlib.Core.Path.{sym, ◌∙◌}
-use Rattle.rules.proofs.File.Refused.{record-act-refused}
-use Rattle.pile.proofs.ActLines.{act-entered}
+use Rattle.rules.proofs.File.Refused.{record_act_refused}
+use Rattle.pile.proofs.ActLines.{act_entered}
 
 act-answer-requires : tie.Need-act-answer-requires
 act-answer-requires c κs = search rules
@@ -14,7 +14,7 @@ act-answer-requires c κs = search rules
 returns : tie.Need-returns
 returns c =
     λ kind means. let e = c.before.act-answer.ensures.0 kind means in
-    (e, sym (record-act-refused _ kind _ _ (λ z. c.if1.true (e ∙ z))))
+    (e, sym (record_act_refused _ kind _ _ (λ z. c.if1.true (e ∙ z))))
 
 mul_at : tie.Need-overflow-mul-at
 mul_at c = search rules
@@ -41,7 +41,7 @@ returns-2 : tie.Need-returns-2
 returns-2 c =
     λ kind means. let e = sym c.before.if1.false ∙ c.before.before.act-answer.ensures.0 kind means in
     let room = c.before.before.act-answer.ensures.1 c.before.if1.false in
-    (e, act-entered _ _ kind _ (means.column-is room.0 room.1) (sym e))
+    (e, act_entered _ _ kind _ (means.column_is room.0 room.1) (sym e))
 
 pub enter_spec : {M : Type 1} → statement M
 enter_spec =

@@ -9,8 +9,8 @@ use mathlib.Core.Path.{refl, sym, ◌∙◌}
 use borrow.Author.Tests.{ltb-true, not-false}
 use Rattle.rules.specs.Acts.{give}
 use Rattle.rules.proofs.Loops.Logic.{or_left}
-use Rattle.rules.proofs.Record.Facts.{record-facts}
-use Rattle.pile.specs.View.{asRecord}
+use Rattle.rules.proofs.Record.Facts.{record_facts}
+use Rattle.pile.specs.View.{as_record}
 use Rattle.rules.specs.Pile.{side_of}
 
 receiver-wrong-requires : tie.Need-receiver-wrong-requires
@@ -27,13 +27,13 @@ returns c =
     let args = c.before.before.before.args in
     c.enter.ensures (give (side_of args.side) args.receiver)
     (record {
-      side-is = refl;
-      receiver-is = sym c.before.before.receiver-wrong.ensures;
-      column-is = λ passed ok.
+      side_is = refl;
+      receiver_is = sym c.before.before.receiver-wrong.ensures;
+      column_is = λ passed ok.
           let below : args.receiver < args.p.n = ltb-true _ _ (not-false _ (or_left _ _ (sym c.before.before.receiver-wrong.ensures ∙ ok))) in
-          sym (c.before.give-column.ensures.1 (omega (arith, below, (record-facts (asRecord args.p) passed).desks-most)));
+          sym (c.before.give-column.ensures.1 (omega (arith, below, (record_facts (as_record args.p) passed).desks_most)));
     })
 
-pub give-side-spec : {M : Type 1} → statement M
-give-side-spec =
+pub give_side_spec : {M : Type 1} → statement M
+give_side_spec =
     tie.close (tie.spec receiver-wrong-requires give-column-requires enter-requires returns)

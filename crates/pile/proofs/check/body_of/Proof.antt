@@ -1,9 +1,9 @@
 -- `body_of` has the record's list checked, and packs it.
 -- Assumes nothing.
 use mathlib.Core.Path.{ap, ◌∙◌}
-use Rattle.padding.specs.Lists.{listAnswer}
-use Rattle.pile.specs.View.{asRecord}
-use Rattle.pile.proofs.Packed.{list-answer}
+use Rattle.padding.specs.Lists.{list_answer}
+use Rattle.pile.specs.View.{as_record}
+use Rattle.pile.proofs.Packed.{list_answer_lem}
 use borrow.Author.Rules.{rules}
 use Rattle.pile.proofs.check.body_of.Statement.{statement}
 use Rattle.pile.proofs.check.body_of.Tie as tie
@@ -32,13 +32,13 @@ returns c =
     let numbers = pack.before.before.before in
     let p = numbers.before.args.p in
     record {
-      answer-is = c.check-record.ensures ∙ ap listAnswer numbers.Numbers-of.ensures
-          ∙ list-answer (asRecord p) (record { shares-long = search rules; tallies-long = search rules });
+      answer_is = c.check-record.ensures ∙ ap list_answer numbers.Numbers-of.ensures
+          ∙ list_answer_lem (as_record p) (record { shares_long = search rules; tallies_long = search rules });
       body_is = rw numbers.Numbers-of.ensures at pack.pack.ensures.1;
     }
 
-pub body-of-spec : {M : Type 1} → statement M
-body-of-spec =
+pub body_of_spec : {M : Type 1} → statement M
+body_of_spec =
     tie.close
     (tie.spec
     numbers-of-requires

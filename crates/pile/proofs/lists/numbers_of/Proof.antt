@@ -2,18 +2,18 @@
 -- Assumes nothing.
 use mathlib.Core.Path.{◌≡◌, ◌∙◌}
 use lib.ListN.{length}
-use Rattle.rules.specs.Record.{sharePlaces, tallyPlaces}
-use Rattle.padding.proofs.CopyLines.{copy-leaves}
-use Rattle.pile.specs.View.{asRecord}
-use Rattle.pile.proofs.RecordNumbers.{three-runs}
+use Rattle.rules.specs.Record.{share_places, tally_places}
+use Rattle.padding.proofs.CopyLines.{copy_leaves}
+use Rattle.pile.specs.View.{as_record}
+use Rattle.pile.proofs.RecordNumbers.{three_runs}
 use borrow.Author.Rules.{rules}
 use Rattle.pile.proofs.lists.numbers_of.Statement.{statement}
 use Rattle.pile.proofs.lists.numbers_of.Tie as tie
 
-shares : (c : tie.Start) → length c.args.pile.shares ≡ sharePlaces
+shares : (c : tie.Start) → length c.args.pile.shares ≡ share_places
 shares c = search rules
 
-tallies : (c : tie.Start) → length c.args.pile.tallies ≡ tallyPlaces
+tallies : (c : tie.Start) → length c.args.pile.tallies ≡ tally_places
 tallies c = search rules
 
 cast-numbers : tie.Need-overflow-cast-numbers
@@ -51,11 +51,11 @@ returns c =
     let last = c.before in
     let one = last.before.before.before.before.before in
     let start = one.before.before.before.before.before in
-    three-runs (asRecord start.args.pile) (shares start) (tallies start) (one.copy_run.ensures.1 ∙ copy-leaves _ _ _ _ _ (search (rules, shares start)) (search rules))
-    (last.copy-run2.ensures.1 ∙ copy-leaves _ _ _ _ _ (search (rules, tallies start)) (search rules))
+    three_runs (as_record start.args.pile) (shares start) (tallies start) (one.copy_run.ensures.1 ∙ copy_leaves _ _ _ _ _ (search (rules, shares start)) (search rules))
+    (last.copy-run2.ensures.1 ∙ copy_leaves _ _ _ _ _ (search (rules, tallies start)) (search rules))
 
-pub numbers-of-spec : {M : Type 1} → statement M
-numbers-of-spec =
+pub numbers_of_spec : {M : Type 1} → statement M
+numbers_of_spec =
     tie.close
     (tie.spec
     cast-numbers

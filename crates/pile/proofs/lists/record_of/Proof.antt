@@ -1,6 +1,6 @@
 -- `record_of` puts the list's numbers where the struct has them.
 -- Assumes nothing.
-use Rattle.padding.specs.Lists.{numbersRecord}
+use Rattle.padding.specs.Lists.{numbers_record}
 use borrow.Author.Rules.{rules}
 use Rattle.pile.proofs.lists.record_of.Statement.{statement}
 use Rattle.pile.proofs.lists.record_of.Tie as tie
@@ -24,13 +24,13 @@ shared-slice-read-t10 : tie.Need-shared-slice-read-t10
 shared-slice-read-t10 c = search rules
 
 returns : tie.Need-returns
-unfolding numbersRecord
+unfolding numbers_record
 returns c =
     let tallies = c.before.before.before in
     rw (tallies.before.shares_of.ensures, tallies.tallies-of.ensures)
 
-pub record-of-spec : {M : Type 1} → statement M
-record-of-spec =
+pub record_of_spec : {M : Type 1} → statement M
+record_of_spec =
     tie.close
     (tie.spec
     shares-of-requires

@@ -5,9 +5,9 @@ use native.Mathlib.Omega.{arith}
 use mathlib.Core.Path.{◌∙◌}
 use lib.ListN.{length}
 use borrow.Author.Rules.{rules}
-use Rattle.rules.specs.Record.{tallyPlaces}
-use Rattle.padding.specs.Lists.{talliesAt, numbersRecord}
-use Rattle.padding.proofs.CopyLines.{copy-leaves}
+use Rattle.rules.specs.Record.{tally_places}
+use Rattle.padding.specs.Lists.{tallies_at, numbers_record}
+use Rattle.padding.proofs.CopyLines.{copy_leaves}
 use Rattle.pile.proofs.RecordNumbers.{whole_run}
 use Rattle.pile.proofs.lists.tallies_of.Statement.{statement}
 use Rattle.pile.proofs.lists.tallies_of.Tie as tie
@@ -19,12 +19,12 @@ copy-run-requires : tie.Need-copy-run-requires
 copy-run-requires c κs = search rules
 
 returns : tie.Need-returns
-unfolding numbersRecord
+unfolding numbers_record
 returns c =
     let start = c.before.before.before.before in
-    let there : talliesAt + tallyPlaces ≤ length start.args.numbers.now = omega (arith, start.requires) in
-    c.before.copy_run.ensures.1 ∙ copy-leaves 0 _ talliesAt start.args.numbers.now tallyPlaces there (search rules)
-    ∙ whole_run start.args.numbers.now talliesAt tallyPlaces there
+    let there : tallies_at + tally_places ≤ length start.args.numbers.now = omega (arith, start.requires) in
+    c.before.copy_run.ensures.1 ∙ copy_leaves 0 _ tallies_at start.args.numbers.now tally_places there (search rules)
+    ∙ whole_run start.args.numbers.now tallies_at tally_places there
 
-pub tallies-of-spec : {M : Type 1} → statement M
-tallies-of-spec = tie.close (tie.spec slice-aggregate-copy-run copy-run-requires returns)
+pub tallies_of_spec : {M : Type 1} → statement M
+tallies_of_spec = tie.close (tie.spec slice-aggregate-copy-run copy-run-requires returns)

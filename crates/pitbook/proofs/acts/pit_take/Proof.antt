@@ -26,5 +26,5 @@ returns-2 c =
     let accepted = sym taken.0 ∙ c.if1.false in
     (sym accepted, (taken.1.1, becomes _ _ accepted taken.1.0))
 
-pub pit-take-spec : {M : Type 1} → statement M
-pit-take-spec = tie.close (tie.spec take-requires same_length returns same-length-2 returns-2)
+pub pit_take_spec : {M : Type 1} → statement M
+pit_take_spec = tie.close (tie.spec take-requires same_length returns same-length-2 returns-2)

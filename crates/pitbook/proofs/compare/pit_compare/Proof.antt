@@ -4,18 +4,18 @@ use Prim.Native.Nat.{ℕ}
 use mathlib.Core.Path.{◌≡◌, ap, sym, ◌∙◌}
 use borrow.Author.Rules.{rules}
 use Rattle.rules.specs.Refusals.{Reply}
-use Rattle.rules.specs.Rows.{compared, orderReply}
+use Rattle.rules.specs.Rows.{compared, order_reply}
 use Rattle.rows.specs.declared.Comparison.{Comparison}
-use Rattle.rows.specs.Comparisons.{asComparison}
+use Rattle.rows.specs.Comparisons.{as_comparison}
 use Rattle.pitbook.specs.Queries.{answer_of, value_of}
 use Rattle.pitbook.proofs.compare.pit_compare.Statement.{statement}
 use Rattle.pitbook.proofs.compare.pit_compare.Tie as tie
 
 told : (c : tie.After-compare) {o : Comparison} → c.compare.result ≡ o → (before : ℕ) → let a = c.before.before.before.args in
-    let reply = orderReply (compared a.mine.now a.copy.now) in
-    (answer_of (orderReply (asComparison o)) ≡ answer_of reply) × (value_of (orderReply (asComparison o)) before ≡ value_of reply before)
+    let reply = order_reply (compared a.mine.now a.copy.now) in
+    (answer_of (order_reply (as_comparison o)) ≡ answer_of reply) × (value_of (order_reply (as_comparison o)) before ≡ value_of reply before)
 told c e before =
-    let is = ap orderReply (sym (ap asComparison e) ∙ c.compare.ensures) in
+    let is = ap order_reply (sym (ap as_comparison e) ∙ c.compare.ensures) in
     (ap answer_of is, ap (λ (reply : Reply). value_of reply before) is)
 
 compare-requires : tie.Need-compare-requires
@@ -51,8 +51,8 @@ returns-4 c = told c.before.before c.enum-told4.given.1 _
 returns-5 : tie.Need-returns-5
 returns-5 c = told c.before.before.before c.before.number.given.1 _
 
-pub pit-compare-spec : {M : Type 1} → statement M
-pit-compare-spec =
+pub pit_compare_spec : {M : Type 1} → statement M
+pit_compare_spec =
     tie.close
     (tie.spec
     compare-requires

@@ -2,15 +2,15 @@
 -- Assumes nothing.
 use Prim.Native.Nat.{◌-◌}
 use native.Mathlib.Omega.{arith}
-use Rattle.rules.specs.Layout.{pileNumber, position}
-use Rattle.pitbook.proofs.Filling.{Filling, none_filled, next-filled, all-filled}
+use Rattle.rules.specs.Layout.{pile_number, position}
+use Rattle.pitbook.proofs.Filling.{Filling, none_filled, next_filled, all_filled}
 use borrow.Author.Rules.{rules}
 use Rattle.pitbook.proofs.contents.put_entries.Statement.{statement}
 use Rattle.pitbook.proofs.contents.put_entries.Tie as tie
 
 abbrev invariant-loop : tie.invariant-loop
 invariant-loop book p numbers₀ positions₀ k₀ numbers positions k =
-    Filling (pileNumber book) numbers₀ p k numbers × Filling (position book) positions₀ p k positions
+    Filling (pile_number book) numbers₀ p k numbers × Filling (position book) positions₀ p k positions
 
 abbrev decreases-loop : tie.decreases-loop
 decreases-loop book p numbers₀ positions₀ k₀ numbers positions k = p - k
@@ -54,8 +54,8 @@ loop-again c =
     let inv = turn.before.loop.invariant in
     let pre = turn.before.before.before.before.before.requires in
     let below = turn.loop-test.true in (
-      next-filled inv.0 below pre.of-numbers c.before.pile-number.ensures,
-      next-filled inv.1 below pre.of-positions c.position.ensures,
+      next_filled inv.0 below pre.of-numbers c.before.pile-number.ensures,
+      next_filled inv.1 below pre.of_positions c.position.ensures,
     )
 
 same_length : tie.Need-same-length invariant-loop decreases-loop
@@ -66,10 +66,10 @@ same-length-2 c = search rules
 
 returns : tie.Need-returns invariant-loop decreases-loop
 returns c =
-    let inv = c.before.loop.invariant in (all-filled inv.0 (omega arith), all-filled inv.1 (omega arith))
+    let inv = c.before.loop.invariant in (all_filled inv.0 (omega arith), all_filled inv.1 (omega arith))
 
-pub put-entries-spec : {M : Type 1} → statement M
-put-entries-spec =
+pub put_entries_spec : {M : Type 1} → statement M
+put_entries_spec =
     tie.close
     (tie.spec
     invariant-loop

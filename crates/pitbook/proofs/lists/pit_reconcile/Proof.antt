@@ -3,8 +3,8 @@
 use mathlib.Core.Path.{◌≡◌, ap, sym, ◌∙◌}
 use borrow.Author.Rules.{rules}
 use Rattle.reconcile.specs.declared.Reconciliation.{Reconciliation}
-use Rattle.reconcile.specs.Lists.{reconcileAnswer}
-use Rattle.reconcile.proofs.Reconciled.{answer-told}
+use Rattle.reconcile.specs.Lists.{reconcile_answer}
+use Rattle.reconcile.proofs.Reconciled.{answer_told}
 use Rattle.rules.proofs.Loops.Left.{stays, becomes}
 use Rattle.pitbook.proofs.lists.pit_reconcile.Statement.{statement}
 use Rattle.pitbook.proofs.lists.pit_reconcile.Tie as tie
@@ -13,8 +13,8 @@ reconcile-requires : tie.Need-reconcile-requires
 reconcile-requires c κs = search rules
 
 answered : (c : tie.After-reconcile) → let args = c.before.before.before.args in
-    c.reconcile.result.answer ≡ reconcileAnswer args.bridge.now args.desk.now
-answered c = ap (λ (r : Reconciliation). r.answer) c.reconcile.ensures ∙ answer-told _ _
+    c.reconcile.result.answer ≡ reconcile_answer args.bridge.now args.desk.now
+answered c = ap (λ (r : Reconciliation). r.answer) c.reconcile.ensures ∙ answer_told _ _
 
 returns : tie.Need-returns
 returns c =
@@ -39,5 +39,5 @@ returns-2 c =
       ),
     )
 
-pub pit-reconcile-spec : {M : Type 1} → statement M
-pit-reconcile-spec = tie.close (tie.spec reconcile-requires returns returns-2)
+pub pit_reconcile_spec : {M : Type 1} → statement M
+pit_reconcile_spec = tie.close (tie.spec reconcile-requires returns returns-2)

@@ -16,5 +16,5 @@ returns c = search rules
 returns-2 : tie.Need-returns-2
 returns-2 c = search rules
 
-pub hand-out-spec : {M : Type 1} → statement M
-hand-out-spec = tie.close (tie.spec enum-known-reply enum-known-reply-2 returns returns-2)
+pub hand_out_spec : {M : Type 1} → statement M
+hand_out_spec = tie.close (tie.spec enum-known-reply enum-known-reply-2 returns returns-2)

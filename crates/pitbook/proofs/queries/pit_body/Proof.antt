@@ -1,13 +1,13 @@
 -- `pit_body` tells where the body starts that `seek` has found, and the length of every body of the book.
 -- Assumes nothing.
 use mathlib.Core.Path.{◌≡◌, ap, sym, ◌∙◌}
-use Rattle.rules.specs.Book.{deskAnswer}
-use Rattle.rules.specs.Opening.{bodySize}
-use Rattle.rules.proofs.File.BodySize.{size-in-range}
-use Rattle.rules.proofs.File.Readable.{BookFacts, book-facts}
-use Rattle.rules.proofs.File.Found.{found-readable}
-use Rattle.rules.proofs.Record.OfBody.{found-count}
-use Rattle.pitbook.proofs.BodyTold.{told-nothing, told-body}
+use Rattle.rules.specs.Book.{desk_answer}
+use Rattle.rules.specs.Opening.{body_size}
+use Rattle.rules.proofs.File.BodySize.{size_in_range}
+use Rattle.rules.proofs.File.Readable.{BookFacts, book_facts}
+use Rattle.rules.proofs.File.Found.{found_readable}
+use Rattle.rules.proofs.Record.OfBody.{found_count}
+use Rattle.pitbook.proofs.BodyTold.{told_nothing, told_body}
 use borrow.Author.Rules.{rules}
 use Rattle.pitbook.proofs.queries.pit_body.Statement.{statement}
 use Rattle.pitbook.proofs.queries.pit_body.Tie as tie
@@ -16,11 +16,11 @@ use Rattle.pitbook.proofs.queries.pit_body.Tie as tie
 abbrev start : tie.Else1 → tie.Start
 start c = c.before.before.before
 
-located : (c : tie.Else1) → deskAnswer 0 (start c).args.book.now (start c).args.pile ≡ 0
+located : (c : tie.Else1) → desk_answer 0 (start c).args.book.now (start c).args.pile ≡ 0
 located c = sym c.before.seek.ensures.0 ∙ c.if1.false
 
 abbrev facts : (c : tie.Else1) → BookFacts (start c).args.book.now
-facts c = book-facts _ (found-readable 0 _ _ (located c))
+facts c = book_facts _ (found_readable 0 _ _ (located c))
 
 seek-requires : tie.Need-seek-requires
 seek-requires c κs = search rules
@@ -28,7 +28,7 @@ seek-requires c κs = search rules
 returns : tie.Need-returns
 returns c =
     let a = c.before.before.before.args in
-    told-nothing _ _ c.before.seek.ensures.0 c.if1.true a.start.now a.length.now
+    told_nothing _ _ c.before.seek.ensures.0 c.if1.true a.start.now a.length.now
 
 cast-at : tie.Need-overflow-cast-at
 cast-at c = search rules
@@ -42,8 +42,8 @@ returns-2 c =
     let a = (start one).args in
     let l = one.before.seek.ensures in
     let s = (facts one).sizes in
-    let size = c.body-length.ensures ∙ ap bodySize (l.1.1 ∙ found-count 0 _ _ (located one)) ∙ size-in-range _ s.desks-least s.desks-most in
-    told-body _ _ l.0 one.if1.false a.start.now a.length.now l.1.0 size
+    let size = c.body-length.ensures ∙ ap body_size (l.1.1 ∙ found_count 0 _ _ (located one)) ∙ size_in_range _ s.desks_least s.desks_most in
+    told_body _ _ l.0 one.if1.false a.start.now a.length.now l.1.0 size
 
-pub pit-body-spec : {M : Type 1} → statement M
-pit-body-spec = tie.close (tie.spec seek-requires returns cast-at body-length-requires returns-2)
+pub pit_body_spec : {M : Type 1} → statement M
+pit_body_spec = tie.close (tie.spec seek-requires returns cast-at body-length-requires returns-2)

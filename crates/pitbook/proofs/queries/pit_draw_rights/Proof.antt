@@ -13,5 +13,5 @@ hand-out-requires c κs = search rules
 returns : tie.Need-returns
 returns c = rw c.before.before.draw-rights.ensures at c.hand-out.ensures
 
-pub pit-draw-rights-spec : {M : Type 1} → statement M
-pit-draw-rights-spec = tie.close (tie.spec draw-rights-requires hand-out-requires returns)
+pub pit_draw_rights_spec : {M : Type 1} → statement M
+pit_draw_rights_spec = tie.close (tie.spec draw-rights-requires hand-out-requires returns)

@@ -13,5 +13,5 @@ hand-out-requires c κs = search rules
 returns : tie.Need-returns
 returns c = rw c.before.before.least.ensures at c.hand-out.ensures
 
-pub pit-least-spec : {M : Type 1} → statement M
-pit-least-spec = tie.close (tie.spec least-requires hand-out-requires returns)
+pub pit_least_spec : {M : Type 1} → statement M
+pit_least_spec = tie.close (tie.spec least-requires hand-out-requires returns)

@@ -13,5 +13,5 @@ hand-out-requires c κs = search rules
 returns : tie.Need-returns
 returns c = rw c.before.before.most.ensures at c.hand-out.ensures
 
-pub pit-most-spec : {M : Type 1} → statement M
-pit-most-spec = tie.close (tie.spec most-requires hand-out-requires returns)
+pub pit_most_spec : {M : Type 1} → statement M
+pit_most_spec = tie.close (tie.spec most-requires hand-out-requires returns)

@@ -13,5 +13,5 @@ hand-out-requires c κs = search rules
 returns : tie.Need-returns
 returns c = rw c.before.before.tip-rights.ensures at c.hand-out.ensures
 
-pub pit-tip-rights-spec : {M : Type 1} → statement M
-pit-tip-rights-spec = tie.close (tie.spec tip-rights-requires hand-out-requires returns)
+pub pit_tip_rights_spec : {M : Type 1} → statement M
+pit_tip_rights_spec = tie.close (tie.spec tip-rights-requires hand-out-requires returns)

@@ -13,5 +13,5 @@ hand-out-requires c κs = search rules
 returns : tie.Need-returns
 returns c = rw c.before.before.tonnage.ensures at c.hand-out.ensures
 
-pub pit-tonnage-spec : {M : Type 1} → statement M
-pit-tonnage-spec = tie.close (tie.spec tonnage-requires hand-out-requires returns)
+pub pit_tonnage_spec : {M : Type 1} → statement M
+pit_tonnage_spec = tie.close (tie.spec tonnage-requires hand-out-requires returns)

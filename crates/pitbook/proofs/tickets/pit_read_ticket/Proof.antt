@@ -2,10 +2,10 @@
 -- Assumes nothing.
 use mathlib.Core.Path.{◌≡◌, ap, sym, ◌∙◌}
 use borrow.Author.Rules.{rules}
-use Rattle.rules.proofs.Loops.Refusals.{when-accepted}
+use Rattle.rules.proofs.Loops.Refusals.{when_accepted}
 use Rattle.ticket.specs.declared.Ticket.{Ticket}
 use Rattle.ticket.specs.declared.Reading.{Reading}
-use Rattle.ticket.specs.Tickets.{ticketOf, readAnswer, reading}
+use Rattle.ticket.specs.Tickets.{ticket_of, read_answer, reading}
 use Rattle.rules.proofs.Loops.Left.{stays, becomes}
 use Rattle.pitbook.proofs.tickets.pit_read_ticket.Statement.{statement}
 use Rattle.pitbook.proofs.tickets.pit_read_ticket.Tie as tie
@@ -13,7 +13,7 @@ use Rattle.pitbook.proofs.tickets.pit_read_ticket.Tie as tie
 read-requires : tie.Need-read-requires
 read-requires c κs = search rules
 
-answered : (c : tie.After-read) → c.read.result.answer ≡ readAnswer c.before.before.args.bytes.now
+answered : (c : tie.After-read) → c.read.result.answer ≡ read_answer c.before.before.args.bytes.now
 unfolding reading
 answered c = ap (λ (r : Reading). r.answer) c.read.ensures
 
@@ -28,7 +28,7 @@ unfolding reading
 returns-2 c =
     let read = c.before in
     let found = sym (answered read) ∙ c.if1.false in
-    let t : read.read.result.ticket ≡ ticketOf read.before.before.args.bytes.now = ap (λ (r : Reading). r.ticket) read.read.ensures ∙ when-accepted _ _ _ found in (
+    let t : read.read.result.ticket ≡ ticket_of read.before.before.args.bytes.now = ap (λ (r : Reading). r.ticket) read.read.ensures ∙ when_accepted _ _ _ found in (
       sym found,
       (
         becomes _ _ found (ap (λ (t : Ticket). t.number) t),
@@ -42,5 +42,5 @@ returns-2 c =
       ),
     )
 
-pub pit-read-ticket-spec : {M : Type 1} → statement M
-pit-read-ticket-spec = tie.close (tie.spec read-requires returns returns-2)
+pub pit_read_ticket_spec : {M : Type 1} → statement M
+pit_read_ticket_spec = tie.close (tie.spec read-requires returns returns-2)

@@ -1,7 +1,7 @@
 -- `advance` reads the next ticket, and asks it as the tickets before it were asked.
 -- Assumes nothing.
 use borrow.Author.Rules.{rules}
-use Rattle.reconcile.proofs.Cursors.{next-position, advanced}
+use Rattle.reconcile.proofs.Cursors.{next_position, advanced}
 use Rattle.reconcile.proofs.cursor.advance.Statement.{statement}
 use Rattle.reconcile.proofs.cursor.advance.Tie as tie
 
@@ -9,7 +9,7 @@ add_at : tie.Need-overflow-add-at
 add_at c = search rules
 
 read-at-requires : tie.Need-read-at-requires
-read-at-requires c κs = next-position c.before.before.requires.0
+read-at-requires c κs = next_position c.before.before.requires.0
 
 first-of-requires : tie.Need-first-of-requires
 first-of-requires c κs = search rules
@@ -22,6 +22,6 @@ returns c =
     let read = c.before.before.before in
     advanced read.before.before.before.requires.0 read.read_at.ensures c.before.first_of.ensures c.rises-to.ensures
 
-pub advance-spec : {M : Type 1} → statement M
-advance-spec =
+pub advance_spec : {M : Type 1} → statement M
+advance_spec =
     tie.close (tie.spec add_at read-at-requires first-of-requires rises-to-requires returns)

@@ -4,8 +4,8 @@ use Prim.Native.Nat.{◌+◌, ◌-◌, ◌*◌, ◌/◌}
 use native.Mathlib.Omega.{arith}
 use mathlib.Core.Path.{◌≡◌, sym, ◌∙◌}
 use borrow.Author.Rules.{rules}
-use Rattle.ticket.specs.Tickets.{ticketLength}
-use Rattle.reconcile.proofs.Readings.{read-inside, read-end}
+use Rattle.ticket.specs.Tickets.{ticket_length}
+use Rattle.reconcile.proofs.Readings.{read_inside, read_end}
 use Rattle.reconcile.proofs.cursor.read_at.Statement.{statement}
 use Rattle.reconcile.proofs.cursor.read_at.Tie as tie
 
@@ -27,14 +27,14 @@ read-requires c κs = search rules
 returns : tie.Need-returns
 returns c =
     let a = c.before.before.before.before.args in
-    let start : a.at / ticketLength * ticketLength ≡ a.at = omega arith in
+    let start : a.at / ticket_length * ticket_length ≡ a.at = omega arith in
     let size : a.at + 11 - a.at ≡ 11 = omega arith in
-    sym (read-inside _ _ (omega arith) ∙ rw (start, ← size) (sym c.read.ensures))
+    sym (read_inside _ _ (omega arith) ∙ rw (start, ← size) (sym c.read.ensures))
 
 returns-2 : tie.Need-returns-2
-returns-2 c = sym (read-end _ _ (omega arith))
+returns-2 c = sym (read_end _ _ (omega arith))
 
-pub read-at-spec : {M : Type 1} → statement M
-read-at-spec =
+pub read_at_spec : {M : Type 1} → statement M
+read_at_spec =
     tie.close
     (tie.spec add_read sub_read part-read-start part-read-end read-requires returns returns-2)

@@ -35,8 +35,8 @@ loop-again c = search rules
 returns : tie.Need-returns invariant-loop decreases-loop
 returns c = search rules
 
-pub longest-list-spec : {M : Type 1} → statement M
-longest-list-spec =
+pub longest_list_spec : {M : Type 1} → statement M
+longest_list_spec =
     tie.close
     (tie.spec
     invariant-loop

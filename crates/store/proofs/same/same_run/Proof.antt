@@ -9,7 +9,7 @@ use lib.Dec.{eqb}
 use borrow.Author.Tests.{eq-eqb, ne_eqb}
 use Rattle.rules.specs.Loops.{every}
 use Rattle.rules.specs.Numbers.{number}
-use Rattle.rules.proofs.Loops.Every.{every_more, every-stops}
+use Rattle.rules.proofs.Loops.Every.{every_more, every_stops}
 use Rattle.rules.proofs.Bytes.Numbers.{number_read}
 use borrow.Author.Rules.{rules}
 use Rattle.store.proofs.same.same_run.Statement.{statement}
@@ -69,7 +69,7 @@ loop-again c =
     let a = at.before.before.before.args in
     let read = number_read 4 a.book.now (a.at + loop.k * 4) c.before.get4.ensures in (
       search rules,
-      ⊎_elim (λ w. w.1 ∙ sym (every-stops _ _ loop.k (omega arith) (ne_eqb _ _ (λ e. w.0.taken (e ∙ sym read)))))
+      ⊎_elim (λ w. w.1 ∙ sym (every_stops _ _ loop.k (omega arith) (ne_eqb _ _ (λ e. w.0.taken (e ∙ sym read)))))
           (λ w. w.1 ∙ loop.invariant.1 ∙ sym (every_more _ _ (eq-eqb _ _ (w.0.left ∙ read)))) c.if1.branch,
     )
 
@@ -78,8 +78,8 @@ returns c =
     let done : c.before.loop.k ≡ c.before.before.before.before.args.count = omega arith in
     rw done at c.before.loop.invariant.1
 
-pub same-run-spec : {M : Type 1} → statement M
-same-run-spec =
+pub same_run_spec : {M : Type 1} → statement M
+same_run_spec =
     tie.close
     (tie.spec
     invariant-loop

@@ -3,15 +3,15 @@
 use mathlib.Core.Path.{◌≡◌, ap, sym, ◌∙◌}
 use borrow.Author.Rules.{rules}
 use Rattle.rules.specs.Numbers.{part}
-use Rattle.rules.specs.Rows.{compared, isAlike}
+use Rattle.rules.specs.Rows.{compared, is_alike}
 use Rattle.rows.specs.declared.Comparison.{Comparison}
-use Rattle.rows.specs.Comparisons.{asComparison}
+use Rattle.rows.specs.Comparisons.{as_comparison}
 use Rattle.take.proofs.judge.alike_at.Statement.{statement}
 use Rattle.take.proofs.judge.alike_at.Tie as tie
 
 told : (c : tie.After-compare-at) {o : Comparison} → c.compare-at.result ≡ o → let a = c.before.before.before.args in
-    isAlike (asComparison o) ≡ isAlike (compared (part a.at a.row a.own.now) (part a.at a.row a.copy.now))
-told c e = ap isAlike (sym (ap asComparison e) ∙ c.compare-at.ensures)
+    is_alike (as_comparison o) ≡ is_alike (compared (part a.at a.row a.own.now) (part a.at a.row a.copy.now))
+told c e = ap is_alike (sym (ap as_comparison e) ∙ c.compare-at.ensures)
 
 compare-at-requires : tie.Need-compare-at-requires
 compare-at-requires c κs = search rules
@@ -46,8 +46,8 @@ returns-4 c = told c.before.before c.enum-told4.given.1
 returns-5 : tie.Need-returns-5
 returns-5 c = told c.before.before c.enum-told5.given.1
 
-pub alike-at-spec : {M : Type 1} → statement M
-alike-at-spec =
+pub alike_at_spec : {M : Type 1} → statement M
+alike_at_spec =
     tie.close
     (tie.spec
     compare-at-requires

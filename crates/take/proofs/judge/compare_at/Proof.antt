@@ -40,8 +40,8 @@ returns c =
     let size : a.at + a.row - a.at ≡ a.row = omega arith in
     rw size at c.compare.ensures
 
-pub compare-at-spec : {M : Type 1} → statement M
-compare-at-spec =
+pub compare_at_spec : {M : Type 1} → statement M
+compare_at_spec =
     tie.close
     (tie.spec
     add-compare

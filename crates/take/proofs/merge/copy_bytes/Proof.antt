@@ -8,9 +8,9 @@ use lib.ListN.{get_or}
 use lib.Seq.{sets}
 use borrow.Author.Rules.{rules}
 use Rattle.rules.specs.Loops.{list}
-use Rattle.rules.proofs.Loops.Pieces.{length-list, getD-list}
-use Rattle.rules.proofs.Loops.Parts.{part-is}
-use Rattle.rules.proofs.Loops.Writing.{Written, none_written, next-number, all-numbers}
+use Rattle.rules.proofs.Loops.Pieces.{length_list, getD_list}
+use Rattle.rules.proofs.Loops.Parts.{part_is}
+use Rattle.rules.proofs.Loops.Writing.{Written, none_written, next_number_lem, all_numbers}
 use Rattle.take.proofs.merge.copy_bytes.Statement.{statement}
 use Rattle.take.proofs.merge.copy_bytes.Tie as tie
 
@@ -45,7 +45,7 @@ loop-less : tie.Need-loop-smaller invariant-loop decreases-loop
 loop-less c = search rules
 
 loop-again : tie.Need-loop-preserved invariant-loop decreases-loop
-loop-again c = next-number c.before.before.loop.invariant c.before.loop-test.true
+loop-again c = next_number_lem c.before.before.loop.invariant c.before.loop-test.true
 
 same_length : tie.Need-same-length invariant-loop decreases-loop
 same_length c = search rules
@@ -55,12 +55,12 @@ returns c =
     let s = c.before.before in
     let a = s.args in
     let bytes = byte a.copy.now a.at in
-    all-numbers c.before.loop.invariant (omega arith)
-    ∙ ap (sets a.own.now a.at) (sym (part-is a.at a.count a.copy.now (list a.count bytes) s.requires.in-copy (length-list a.count bytes)
-    (λ j l. sym (getD-list a.count bytes 0 j l))))
+    all_numbers c.before.loop.invariant (omega arith)
+    ∙ ap (sets a.own.now a.at) (sym (part_is a.at a.count a.copy.now (list a.count bytes) s.requires.in_copy (length_list a.count bytes)
+    (λ j l. sym (getD_list a.count bytes 0 j l))))
 
-pub copy-bytes-spec : {M : Type 1} → statement M
-copy-bytes-spec =
+pub copy_bytes_spec : {M : Type 1} → statement M
+copy_bytes_spec =
     tie.close
     (tie.spec
     invariant-loop

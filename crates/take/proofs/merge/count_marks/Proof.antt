@@ -8,7 +8,7 @@ use mathlib.Core.Bool.{Bool, false}
 use mathlib.Core.List.{List}
 use lib.ListN.{get_or}
 use borrow.Author.Rules.{rules}
-use Rattle.rules.specs.Loops.{sum, oneIf, count}
+use Rattle.rules.specs.Loops.{sum, one_if, count}
 use Rattle.rules.proofs.Loops.Counts.{count_next, count_most}
 use Rattle.take.proofs.merge.count_marks.Statement.{statement}
 use Rattle.take.proofs.merge.count_marks.Tie as tie
@@ -43,7 +43,7 @@ loop-again : tie.Need-loop-preserved invariant-loop decreases-loop
 loop-again c =
     let at = c.before.before.before in
     let more = count_next at.loop.k (mark at.before.args.marks.now) in
-    let one : Bool → ℕ = λ b. oneIf b in (
+    let one : Bool → ℕ = λ b. one_if b in (
       omega arith,
       ⊎_elim (λ w. omega (arith, w.1, at.loop.invariant.1, more, ap one w.0.taken)) (λ w. omega (arith, w.1, at.loop.invariant.1, more, ap one w.0.left))
           c.if1.branch,
@@ -55,8 +55,8 @@ returns c =
     let done : at.loop.k ≡ at.before.args.rows = omega arith in
     at.loop.invariant.1 ∙ ap (λ (k : ℕ). count k (mark at.before.args.marks.now)) done
 
-pub count-marks-spec : {M : Type 1} → statement M
-count-marks-spec =
+pub count_marks_spec : {M : Type 1} → statement M
+count_marks_spec =
     tie.close
     (tie.spec
     invariant-loop

@@ -12,13 +12,13 @@ use lib.Seq.{sets}
 use borrow.Author.Rules.{rules}
 use Rattle.rules.specs.Loops.{flat}
 use Rattle.rules.specs.Numbers.{part}
-use Rattle.rules.proofs.Loops.Pieces.{length-flat}
-use Rattle.rules.proofs.Loops.Parts.{sets-part}
-use Rattle.rules.proofs.Loops.Sets.{part-behind-sets}
-use Rattle.rules.proofs.Loops.Writing.{Written, none_written, next-written, all-written}
+use Rattle.rules.proofs.Loops.Pieces.{length_flat}
+use Rattle.rules.proofs.Loops.Parts.{sets_part}
+use Rattle.rules.proofs.Loops.Sets.{part_behind_sets}
+use Rattle.rules.proofs.Loops.Writing.{Written, none_written, next_written, all_written}
 use Rattle.take.specs.Inner.{InBoth}
-use Rattle.take.proofs.Marking.{row-in-both}
-use Rattle.take.proofs.Moved.{moved, moved-long}
+use Rattle.take.proofs.Marking.{row_in_both}
+use Rattle.take.proofs.Moved.{moved, moved_long}
 use Rattle.take.proofs.merge.take_rows.Statement.{statement}
 use Rattle.take.proofs.merge.take_rows.Tie as tie
 
@@ -38,15 +38,15 @@ start c = c.before.before.before.before
 abbrev pieces : tie.Start invariant-loop decreases-loop → ℕ → List ℕ
 pieces s = taken s.args.own.now s.args.copy.now s.args.marks.now s.args.at s.args.row
 
-row-long : (s : tie.Start invariant-loop decreases-loop) (r : ℕ) → r < s.args.rows → length (pieces s r) ≡ s.args.row
-row-long s r l = moved-long (row-in-both s.requires.0 r l) (get_or s.args.marks.now r false)
+row_long : (s : tie.Start invariant-loop decreases-loop) (r : ℕ) → r < s.args.rows → length (pieces s r) ≡ s.args.row
+row_long s r l = moved_long (row_in_both s.requires.0 r l) (get_or s.args.marks.now r false)
 
 -- the row of this turn, in the book as it is now
 in_both : (c : tie.In-loop invariant-loop decreases-loop) → InBoth c.before.loop.from (start c.before).args.row c.before.loop.own (start c.before).args.copy.now
 in_both c =
     let at = c.before in
-    let w = row-in-both (start at).requires.0 at.loop.k c.loop-test.true in
-    record { in-own = omega (arith, at.loop.invariant.0, at.loop.invariant.1.long, w.in-own); in-copy = omega (arith, at.loop.invariant.0, w.in-copy) }
+    let w = row_in_both (start at).requires.0 at.loop.k c.loop-test.true in
+    record { in_own = omega (arith, at.loop.invariant.0, at.loop.invariant.1.long, w.in_own); in_copy = omega (arith, at.loop.invariant.0, w.in_copy) }
 
 -- nothing was written there yet
 untouched : (c : tie.In-loop invariant-loop decreases-loop) → let at = c.before in let a = (start at).args in
@@ -54,11 +54,11 @@ untouched : (c : tie.In-loop invariant-loop decreases-loop) → let at = c.befor
 untouched c =
     let at = c.before in
     let a = (start at).args in
-    let w = row-in-both (start at).requires.0 at.loop.k c.loop-test.true in
+    let w = row_in_both (start at).requires.0 at.loop.k c.loop-test.true in
     ap (part at.loop.from a.row) at.loop.invariant.1.is
-    ∙ part-behind-sets a.own.now a.at (flat at.loop.k (pieces (start at))) at.loop.from a.row
-    (omega (arith, at.loop.invariant.0, length-flat at.loop.k a.row (pieces (start at)) (λ r l. row-long (start at) r (omega arith))))
-    (omega (arith, at.loop.invariant.0, w.in-own))
+    ∙ part_behind_sets a.own.now a.at (flat at.loop.k (pieces (start at))) at.loop.from a.row
+    (omega (arith, at.loop.invariant.0, length_flat at.loop.k a.row (pieces (start at)) (λ r l. row_long (start at) r (omega arith))))
+    (omega (arith, at.loop.invariant.0, w.in_own))
 
 loop-holds : tie.Need-loop-init invariant-loop decreases-loop
 loop-holds c = (omega arith, none_written)
@@ -70,7 +70,7 @@ copy-bytes-requires : tie.Need-copy-bytes-requires invariant-loop decreases-loop
 copy-bytes-requires c κs = search (rules, in_both c.before.before.before)
 
 add-from : tie.Need-overflow-add-from invariant-loop decreases-loop
-add-from c = omega (arith, (in_both c.before.before).in-own)
+add-from c = omega (arith, (in_both c.before.before).in_own)
 
 add-k : tie.Need-overflow-add-k invariant-loop decreases-loop
 add-k c = search rules
@@ -90,7 +90,7 @@ written c =
     let put : ℕ → Bool → List ℕ = λ to marked. sets at.loop.own from (moved a.own.now a.copy.now to a.row marked) in
     let here : c.if1.own ≡ put from mark =
     ⊎_elim (λ w. w.5 ∙ w.2.ensures ∙ ap (put from) (sym w.0.taken))
-    (λ w. w.1 ∙ sym (sets-part from a.row at.loop.own (in_both now).in-own)
+    (λ w. w.1 ∙ sym (sets_part from a.row at.loop.own (in_both now).in_own)
     ∙ ap (sets at.loop.own from) (untouched now)
     ∙ ap (put from) (sym w.0.left))
     c.if1.branch in
@@ -102,17 +102,17 @@ loop-again c =
     let at = now.before in
     let a = (start at).args in (
       omega (arith, at.loop.invariant.0, add-mul at.loop.k 1 a.row),
-      next-written a.row (row-long (start at)) at.loop.invariant.1 now.loop-test.true at.loop.invariant.0 (written c),
+      next_written a.row (row_long (start at)) at.loop.invariant.1 now.loop-test.true at.loop.invariant.0 (written c),
     )
 
 same_length : tie.Need-same-length invariant-loop decreases-loop
 same_length c = search rules
 
 returns : tie.Need-returns invariant-loop decreases-loop
-returns c = all-written c.before.loop.invariant.1 (omega arith)
+returns c = all_written c.before.loop.invariant.1 (omega arith)
 
-pub take-rows-spec : {M : Type 1} → statement M
-take-rows-spec =
+pub take_rows_spec : {M : Type 1} → statement M
+take_rows_spec =
     tie.close
     (tie.spec
     invariant-loop

@@ -4,8 +4,8 @@ use native.Mathlib.Nat.{suc-ne-zero}
 use native.Mathlib.Omega.{arith}
 use mathlib.Core.Path.{◌≡◌, ◌∙◌}
 use borrow.Author.Rules.{rules}
-use Rattle.ticket.specs.Tickets.{ticketOf, readAnswer}
-use Rattle.ticket.proofs.Lines.{unpacked, fields_read, reading-refused, reading-done, length-wrong}
+use Rattle.ticket.specs.Tickets.{ticket_of, read_answer}
+use Rattle.ticket.proofs.Lines.{unpacked, fields_read, reading_refused, reading_done, length_wrong_lem}
 use Rattle.ticket.proofs.Ticket.read.Statement.{statement}
 use Rattle.ticket.proofs.Ticket.read.Tie as tie
 
@@ -13,7 +13,7 @@ refused-requires : tie.Need-refused-requires
 refused-requires c κs = search rules
 
 returns : tie.Need-returns
-returns c = c.refused.ensures ∙ reading-refused _ (length-wrong _ (λ e. omega (arith, c.before.if1.true, e))) (suc-ne-zero 2)
+returns c = c.refused.ensures ∙ reading_refused _ (length_wrong_lem _ (λ e. omega (arith, c.before.if1.true, e))) (suc-ne-zero 2)
 
 unpack-requires : tie.Need-unpack-requires
 unpack-requires c κs = search rules
@@ -39,8 +39,8 @@ refused-requires-2 c κs = search rules
 -- the ticket that was read is that of the bytes, and so is the answer of its fields
 read_off : (c : tie.After-fields-answer) → let tonnes = c.before.before.before in
     let b = tonnes.before.before.before.before.before.args.bytes.now in
-    (c.fields-answer.result ≡ readAnswer b)
-    × (unpacked b tonnes.before.before.unpack.result.number tonnes.before.unpack2.result.number tonnes.unpack3.result.number ≡ ticketOf b)
+    (c.fields-answer.result ≡ read_answer b)
+    × (unpacked b tonnes.before.before.unpack.result.number tonnes.before.unpack2.result.number tonnes.unpack3.result.number ≡ ticket_of b)
 read_off c =
     let tonnes = c.before.before.before in
     let pile = tonnes.before in
@@ -49,10 +49,10 @@ read_off c =
     (c.fields-answer.ensures ∙ read.0, read.1)
 
 returns-2 : tie.Need-returns-2
-returns-2 c = c.refused2.ensures ∙ reading-refused _ (read_off c.before.before).0 c.before.if2.true
+returns-2 c = c.refused2.ensures ∙ reading_refused _ (read_off c.before.before).0 c.before.if2.true
 
 returns-3 : tie.Need-returns-3
-returns-3 c = let r = read_off c.before in reading-done _ r.0 c.if2.false r.1
+returns-3 c = let r = read_off c.before in reading_done _ r.0 c.if2.false r.1
 
 pub read_spec : {M : Type 1} → statement M
 read_spec =

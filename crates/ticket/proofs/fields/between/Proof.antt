@@ -3,17 +3,17 @@
 use mathlib.Core.Path.{sym, ◌∙◌}
 use borrow.Author.Tests.{le-leb, lt-leb}
 use Rattle.rules.specs.Loops.{between}
-use Rattle.rules.proofs.Loops.Logic.{and-left-holds, and-left-fails}
+use Rattle.rules.proofs.Loops.Logic.{and_left_holds, and_left_fails}
 use Rattle.ticket.proofs.fields.between.Statement.{statement}
 use Rattle.ticket.proofs.fields.between.Tie as tie
 
 returns : tie.Need-returns
 unfolding between
-returns c = and-left-holds (le-leb _ _ c.if1.true) _
+returns c = and_left_holds (le-leb _ _ c.if1.true) _
 
 returns-2 : tie.Need-returns-2
 unfolding between
-returns-2 c = let e = lt-leb _ _ c.if1.false in e ∙ sym (and-left-fails e _)
+returns-2 c = let e = lt-leb _ _ c.if1.false in e ∙ sym (and_left_fails e _)
 
-pub between-spec : {M : Type 1} → statement M
-between-spec = tie.close (tie.spec returns returns-2)
+pub between_spec : {M : Type 1} → statement M
+between_spec = tie.close (tie.spec returns returns-2)

@@ -7,10 +7,10 @@ use lib.Dec.{ltb}
 use borrow.Author.Rules.{rules}
 use borrow.Author.Tests.{lt-ltb, le-ltb}
 use Rattle.rules.specs.Loops.{between}
-use Rattle.rules.specs.Refusals.{◌when◌, ◌orElse◌}
+use Rattle.rules.specs.Refusals.{◌when◌, ◌or_else◌}
 use Rattle.rules.proofs.Loops.Logic.{holds, fails}
-use Rattle.rules.proofs.Loops.Refusals.{own-refusal, orElse-passes}
-use Rattle.ticket.specs.Tickets.{fieldAnswer, fieldsAnswer, numberLimit}
+use Rattle.rules.proofs.Loops.Refusals.{own_refusal, or_else_passes}
+use Rattle.ticket.specs.Tickets.{field_answer, fields_answer, number_limit}
 use Rattle.ticket.proofs.fields.fields_answer.Statement.{statement}
 use Rattle.ticket.proofs.fields.fields_answer.Tie as tie
 
@@ -18,30 +18,30 @@ field-answer-requires : tie.Need-field-answer-requires
 field-answer-requires c κs = search rules
 
 returns : tie.Need-returns
-unfolding fieldsAnswer
-returns c = own-refusal c.before.field-answer.ensures c.if1.true _
+unfolding fields_answer
+returns c = own_refusal c.before.field-answer.ensures c.if1.true _
 
 field-answer-requires-2 : tie.Need-field-answer-requires-2
 field-answer-requires-2 c κs = search rules
 
 -- the fields that are right are passed over
-past-number : (c : tie.Else1) (rest : ℕ) → rest ≡ fieldAnswer 33 0 numberLimit c.before.before.args.number-right c.before.before.args.t.number or_else rest
-past-number c rest = sym (orElse-passes (sym c.before.field-answer.ensures ∙ c.if1.false) rest)
+past_number : (c : tie.Else1) (rest : ℕ) → rest ≡ field_answer 33 0 number_limit c.before.before.args.number-right c.before.before.args.t.number or_else rest
+past_number c rest = sym (or_else_passes (sym c.before.field-answer.ensures ∙ c.if1.false) rest)
 
 returns-2 : tie.Need-returns-2
-unfolding fieldsAnswer
-returns-2 c = own-refusal c.before.field-answer2.ensures c.if2.true _ ∙ past-number c.before.before _
+unfolding fields_answer
+returns-2 c = own_refusal c.before.field-answer2.ensures c.if2.true _ ∙ past_number c.before.before _
 
 field-answer-requires-3 : tie.Need-field-answer-requires-3
 field-answer-requires-3 c κs = search rules
 
-past-pile : (c : tie.Else2) (rest : ℕ) → let args = c.before.before.before.before.args in
-    rest ≡ fieldAnswer 33 0 numberLimit args.number-right args.t.number or_else fieldAnswer 34 1 65535 args.pile-right args.t.pile or_else rest
-past-pile c rest = sym (orElse-passes (sym c.before.field-answer2.ensures ∙ c.if2.false) rest) ∙ past-number c.before.before _
+past_pile : (c : tie.Else2) (rest : ℕ) → let args = c.before.before.before.before.args in
+    rest ≡ field_answer 33 0 number_limit args.number-right args.t.number or_else field_answer 34 1 65535 args.pile-right args.t.pile or_else rest
+past_pile c rest = sym (or_else_passes (sym c.before.field-answer2.ensures ∙ c.if2.false) rest) ∙ past_number c.before.before _
 
 returns-3 : tie.Need-returns-3
-unfolding fieldsAnswer
-returns-3 c = own-refusal c.before.field-answer3.ensures c.if3.true _ ∙ past-pile c.before.before _
+unfolding fields_answer
+returns-3 c = own_refusal c.before.field-answer3.ensures c.if3.true _ ∙ past_pile c.before.before _
 
 cast-between : tie.Need-overflow-cast-between
 cast-between c = search rules
@@ -49,34 +49,34 @@ cast-between c = search rules
 between-requires : tie.Need-between-requires
 between-requires c κs = search rules
 
-past-packed : (c : tie.Else3) (answer : ℕ) → let args = c.before.before.before.before.before.before.args in
+past_packed : (c : tie.Else3) (answer : ℕ) → let args = c.before.before.before.before.before.before.args in
     answer ≡ 35 when not (between 1 2 args.t.kind) or_else 35 when ltb 7 args.t.desk
-    → answer ≡ fieldsAnswer args.number-right args.pile-right args.tonnes-right args.t
-unfolding fieldsAnswer
-past-packed c answer e =
-    e ∙ sym (orElse-passes (sym c.before.field-answer3.ensures ∙ c.if3.false) _) ∙ past-pile c.before.before _
+    → answer ≡ fields_answer args.number-right args.pile-right args.tonnes-right args.t
+unfolding fields_answer
+past_packed c answer e =
+    e ∙ sym (or_else_passes (sym c.before.field-answer3.ensures ∙ c.if3.false) _) ∙ past_pile c.before.before _
 
 returns-4 : tie.Need-returns-4
-unfolding ◌when◌ ◌orElse◌
+unfolding ◌when◌ ◌or_else◌
 returns-4 c =
     let at = c.before.before.before in
     let wrong : between 1 2 at.before.before.before.before.before.before.args.t.kind ≡ false = fails c.before.between.ensures c.if4.true in
-    past-packed at 35 (rw wrong refl)
+    past_packed at 35 (rw wrong refl)
 
 returns-5 : tie.Need-returns-5
-unfolding ◌when◌ ◌orElse◌
+unfolding ◌when◌ ◌or_else◌
 returns-5 c =
-    past-packed c.before.before.before.before.before 35
+    past_packed c.before.before.before.before.before 35
     (rw (holds c.before.before.before.between.ensures c.before.before.if4.false, lt-ltb 7 _ c.if5.true) refl)
 
 returns-6 : tie.Need-returns-6
-unfolding ◌when◌ ◌orElse◌
+unfolding ◌when◌ ◌or_else◌
 returns-6 c =
-    past-packed c.before.before.before.before.before 0
+    past_packed c.before.before.before.before.before 0
     (rw (holds c.before.before.before.between.ensures c.before.before.if4.false, le-ltb 7 _ c.if5.false) refl)
 
-pub fields-answer-spec : {M : Type 1} → statement M
-fields-answer-spec =
+pub fields_answer_spec : {M : Type 1} → statement M
+fields_answer_spec =
     tie.close
     (tie.spec
     field-answer-requires

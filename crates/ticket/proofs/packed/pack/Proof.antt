@@ -6,14 +6,14 @@ use mathlib.Core.Path.{◌≡◌, refl, ◌∙◌}
 use lib.ListN.{length}
 use lib.Seq.{sets}
 use borrow.Author.Rules.{rules}
-use Rattle.ticket.specs.Packed.{packedBytes}
-use Rattle.ticket.proofs.Digits.{last-first}
+use Rattle.ticket.specs.Packed.{packed_bytes}
+use Rattle.ticket.proofs.Digits.{last_first}
 use Rattle.ticket.proofs.packed.pack.Statement.{statement}
 use Rattle.ticket.proofs.packed.pack.Tie as tie
 
 abbrev invariant-loop : tie.invariant-loop
 invariant-loop s₀ at w x rest₀ k₀ s rest k =
-    (k ≤ w) × (length s ≡ length s₀) × (sets s at (packedBytes k rest) ≡ sets s₀ at (packedBytes w x))
+    (k ≤ w) × (length s ≡ length s₀) × (sets s at (packed_bytes k rest) ≡ sets s₀ at (packed_bytes w x))
 
 abbrev decreases-loop : tie.decreases-loop
 decreases-loop s₀ at w x rest₀ k₀ s rest k = k
@@ -41,17 +41,17 @@ loop-less c = search rules
 
 loop-again : tie.Need-loop-preserved invariant-loop decreases-loop
 loop-again c =
-    (search rules, search rules, last-first _ _ _ _ c.before.loop-test.true c.pair-byte.ensures ∙ c.before.before.loop.invariant.2)
+    (search rules, search rules, last_first _ _ _ _ c.before.loop-test.true c.pair-byte.ensures ∙ c.before.before.loop.invariant.2)
 
 same_length : tie.Need-same-length invariant-loop decreases-loop
 same_length c = search rules
 
 returns : tie.Need-returns invariant-loop decreases-loop
-unfolding packedBytes
+unfolding packed_bytes
 returns c = let done : c.before.loop.k ≡ 0 = omega arith in rw done at c.before.loop.invariant.2
 
-pub pack-spec : {M : Type 1} → statement M
-pack-spec =
+pub pack_spec : {M : Type 1} → statement M
+pack_spec =
     tie.close
     (tie.spec
     invariant-loop

@@ -8,22 +8,22 @@ use mathlib.Core.Path.{◌≡◌, refl, ap, ap₂, sym, ◌∙◌}
 use mathlib.Core.Logic.{⊎_elim}
 use borrow.Author.Rules.{rules}
 use Rattle.rules.specs.Loops.{every}
-use Rattle.rules.proofs.Loops.Logic.{holds, fails, and-true, and-right-fails}
-use Rattle.ticket.specs.Packed.{packedNumber, digitsRight}
-use Rattle.ticket.proofs.Digits.{packed-next, right-next}
+use Rattle.rules.proofs.Loops.Logic.{holds, fails, and_true, and_right_fails}
+use Rattle.ticket.specs.Packed.{packed_number, digits_right}
+use Rattle.ticket.proofs.Digits.{packed_next, right_next}
 use Rattle.ticket.proofs.packed.unpack.Statement.{statement}
 use Rattle.ticket.proofs.packed.unpack.Tie as tie
 
 -- a byte adds at most 255, so that k bytes come to less than 3 · 100^k, wrong digits or right
 abbrev invariant-loop : tie.invariant-loop
 invariant-loop s at w right₀ number₀ k₀ right number k =
-    (k ≤ w) × (right ≡ digitsRight k s at) × (number ≡ packedNumber k s at) × (number + 3 ≤ 3 * 100 ^ k)
+    (k ≤ w) × (right ≡ digits_right k s at) × (number ≡ packed_number k s at) × (number + 3 ≤ 3 * 100 ^ k)
 
 abbrev decreases-loop : tie.decreases-loop
 decreases-loop s at w right₀ number₀ k₀ right number k = w - k
 
 loop-holds : tie.Need-loop-init invariant-loop decreases-loop
-unfolding packedNumber digitsRight every
+unfolding packed_number digits_right every
 loop-holds c = (search rules, refl, refl, search rules)
 
 add-byte : tie.Need-overflow-add-byte invariant-loop decreases-loop
@@ -69,17 +69,17 @@ loop-again c =
     let byte-right = c.before.before.pair-right.ensures in
     let grown : 100 * loop.number + c.pair-number.result + 3 ≤ 3 * 100 ^ (loop.k + 1) = omega (arith, loop.invariant.3, hundredfold loop.k) in (
       search rules,
-      ⊎_elim (λ w. w.1 ∙ sym (right-next _ _ _ ∙ and-right-fails _ (fails byte-right w.0.taken)))
-          (λ w. w.1 ∙ loop.invariant.1 ∙ sym (right-next _ _ _ ∙ rw (holds byte-right w.0.left) (and-true _))) c.before.if1.branch,
-      ap₂ (λ (x y : ℕ). 100 * x + y) loop.invariant.2 c.pair-number.ensures ∙ sym (packed-next _ _ _),
+      ⊎_elim (λ w. w.1 ∙ sym (right_next _ _ _ ∙ and_right_fails _ (fails byte-right w.0.taken)))
+          (λ w. w.1 ∙ loop.invariant.1 ∙ sym (right_next _ _ _ ∙ rw (holds byte-right w.0.left) (and_true _))) c.before.if1.branch,
+      ap₂ (λ (x y : ℕ). 100 * x + y) loop.invariant.2 c.pair-number.ensures ∙ sym (packed_next _ _ _),
       grown,
     )
 
 returns : tie.Need-returns invariant-loop decreases-loop
 returns c = let done : c.before.loop.k ≡ c.before.before.before.args.w = omega arith in (rw done at c.before.loop.invariant.1, rw done at c.before.loop.invariant.2)
 
-pub unpack-spec : {M : Type 1} → statement M
-unpack-spec =
+pub unpack_spec : {M : Type 1} → statement M
+unpack_spec =
     tie.close
     (tie.spec
     invariant-loop

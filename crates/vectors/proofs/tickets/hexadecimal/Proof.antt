@@ -33,6 +33,6 @@ loop-again c = search rules
 returns : tie.Need-returns invariant-loop decreases-loop
 returns c = search rules
 
-pub hexadecimal-spec : {M : Type 1} → statement M
-hexadecimal-spec =
+pub hexadecimal_spec : {M : Type 1} → statement M
+hexadecimal_spec =
     tie.close (tie.spec invariant-loop decreases-loop loop-holds shared-slice-read-digits digits-requires add-k loop-less loop-again returns)
