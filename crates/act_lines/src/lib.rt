@@ -1,4 +1,6 @@
 // The lines of the table that every act goes through, on a record and on a book.
+#![tactic(auto)]
+
 ghost use Rattle.std.specs.Prelude.{◌≡◌, false, not, ◌+◌, ◌≤◌, ltb, eqb};
 ghost use Rattle.rules.specs.Loops.{◌or◌};
 ghost use Rattle.rules.specs.Refusals.{◌when◌, ◌or_else◌};

@@ -14,7 +14,7 @@ use layout::lengths::body_length;
 use layout::limits::DESKS;
 
 // All is 0 past n, and beside a refusal's number.
-#[derive(Drop)]
+#[derive(Clone, Copy)]
 pub struct Account {
     pub answer: u8,
     pub floor: u32,

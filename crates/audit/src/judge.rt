@@ -26,7 +26,7 @@ fn opening_sound(floor: u64, top: u64, shares: u64) -> bool
 }
 
 // Is no desk's debit above its credit? And what all credits come to: no tally is above that.
-#[derive(Drop)]
+#[derive(Clone, Copy)]
 struct Balance {
     pub covered: bool,
     pub credits: u64,

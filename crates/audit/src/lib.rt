@@ -1,4 +1,6 @@
 // The account of a pile's rights, on the bytes of its body: what a book's check, its queries and the acts on it go by.
+#![tactic(auto)]
+
 pub mod accounts;
 mod cells;
 mod judge;

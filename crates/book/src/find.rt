@@ -7,7 +7,7 @@ use crate::readable::book_answer;
 use layout::head::head_of;
 
 // A refusal's number or 0, and where it is 0 the pile's place in the contents.
-#[derive(Drop)]
+#[derive(Clone, Copy)]
 pub(crate) struct Found {
     pub answer: u8,
     pub place: u8,

@@ -1,4 +1,6 @@
 // The book: a file of stockpiles, in a slice of bytes. An entry point that is lent a book checks it first, whole.
+#![tactic(auto)]
+
 mod contents;
 mod find;
 mod queries;
@@ -44,7 +46,7 @@ pub fn body(book: &[u8], number: u16) -> &[u8]
 }
 
 // Where a desk's call finds a pile: a refusal's number or 0, of how many desks its body is, and where that starts.
-#[derive(Drop)]
+#[derive(Clone, Copy)]
 pub struct Sought {
     pub answer: u8,
     pub desks: u8,

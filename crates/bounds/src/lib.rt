@@ -1,4 +1,6 @@
 // What a desk can be sure of: the least and the most tonnes that a pile can have by all acts made, heard of or not.
+#![tactic(auto)]
+
 mod bound;
 mod queries;
 
@@ -18,7 +20,7 @@ use pile::{Amount, Pile};
 use queries::{book_bound, record_bound};
 
 // The account of a body, and each desk's least and most. All is 0 past n, and beside a refusal's number.
-#[derive(Drop)]
+#[derive(Clone, Copy)]
 pub struct Bounded {
     pub held: Account,
     pub least: [u32; DESKS],

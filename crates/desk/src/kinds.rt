@@ -9,7 +9,7 @@ use act_lines::receiver_wrong;
 use layout::cells::{earned_column, side_column};
 
 // A give has its receiver.
-#[derive(Drop)]
+#[derive(Clone, Copy)]
 pub(crate) enum Kind {
     Tip,
     Draw,

@@ -1,4 +1,6 @@
 // The four acts of a desk on its own book. Each call checks the whole book first; an act writes just its one tally, and a refused call nothing.
+#![tactic(auto)]
+
 mod enter;
 mod kinds;
 

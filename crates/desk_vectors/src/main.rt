@@ -1,5 +1,7 @@
 // Books as bytes: the acts and the take on the worked book (`worked.rt`), on a book of two piles (`takes.rt`, `refused.rt`, `broken.rt`), on one of
 // three (`news.rt`) and on the longest (`longest.rt`), and two rows compared (`later.rt`). Each line has the call, its answer, and what it left of the lent bytes.
+#![tactic(auto)]
+
 mod broken;
 mod later;
 mod longest;

@@ -16,7 +16,7 @@ pub const HEAD: usize = 4;
 
 pub const ENTRY: usize = 6;
 
-#[derive(Drop)]
+#[derive(Clone, Copy)]
 pub struct Head {
     pub version: u8,
     pub desks: u8,

@@ -11,7 +11,7 @@ use layout::contents::{pile_number, position};
 use layout::head::head_of;
 
 // A line of the contents: a pile's number, and where its body starts.
-#[derive(Drop)]
+#[derive(Clone, Copy)]
 pub struct Entry {
     pub number: u16,
     pub position: u32,

@@ -1,4 +1,6 @@
 // The forms over what a caller lends: a pile's record that each act updates, and a list of entries that the contents are filled into.
+#![tactic(auto)]
+
 mod acts;
 mod entries;
 

@@ -6,14 +6,14 @@ ghost use Rattle.lent.specs.Entries.{entry_of};
 use lent::{Entry, contents};
 
 // A list with more room than a book needs.
-#[derive(Drop)]
+#[derive(Clone, Copy)]
 pub(crate) struct Listing {
     pub answer: u8,
     pub entries: [Entry; 34],
 }
 
 // A list with too little room for 32 piles.
-#[derive(Drop)]
+#[derive(Clone, Copy)]
 pub(crate) struct Short {
     pub answer: u8,
     pub entries: [Entry; 31],

@@ -1,6 +1,8 @@
 // Lists the book on standard input: a line with its desks and piles, then for each pile, in file order, a line with its number, floor, top and
 // tonnage known and a line for each desk with its rights and the least and the most tonnes that it can be sure of. A refused book is one line with the
 // refusal's number.
+#![tactic(auto)]
+
 mod lines;
 
 ghost use Rattle.std.specs.Prelude.{◌≤◌};

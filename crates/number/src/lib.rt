@@ -1,4 +1,6 @@
 // Numbers in a byte slice: unsigned, low byte first, 2 and 4 bytes wide.
+#![tactic(auto)]
+
 ghost use Rattle.std.specs.Prelude.{◌≡◌, ◌+◌, ◌*◌, ◌≤◌, ltb, length};
 ghost use Rattle.std.proofs.lemmas.List.Edits.{sets};
 ghost use Rattle.rules.specs.Numbers.{number, bytes, put_answer, after_put};

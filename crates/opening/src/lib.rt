@@ -1,4 +1,6 @@
 // Opening a book in a lent buffer, from a list of numbers: for each pile its number, floor, top and shares. Tallies start at 0.
+#![tactic(auto)]
+
 mod front;
 mod given;
 mod judge;

@@ -1,5 +1,7 @@
 // A pile's record as a list of numbers: n, and then the numbers of a body of 8 desks, of which those past n are 0. A body of n desks is padded to it, and
 // packed from it; and a list is checked as the body that it packs to.
+#![tactic(auto)]
+
 mod packed;
 mod padded;
 pub mod runs;

@@ -8,7 +8,7 @@ use layout::lengths::LONGEST_BODY;
 use padding::{check_record, pack};
 
 // A record's own refusal or 0, and its body, at the start of bytes that have room for any.
-#[derive(Drop)]
+#[derive(Clone, Copy)]
 pub(crate) struct Packed {
     pub answer: u8,
     pub body: [u8; LONGEST_BODY],

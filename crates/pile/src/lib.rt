@@ -1,4 +1,6 @@
 // A stockpile's record in memory, by value: its constructor, its check, rights, tonnage and the four acts.
+#![tactic(auto)]
+
 mod acts;
 mod check;
 mod lists;
@@ -28,7 +30,7 @@ pub const ROW: usize = padding::ROW;
 pub const TALLIES: usize = PLACES * ROW;
 
 // n desks; shares of draw and then of tip, 8 each; 8 rows of tallies, each tipped, drawn, 8 draw gives and 8 tip gives. All past n is 0.
-#[derive(Drop)]
+#[derive(Clone, Copy)]
 pub struct Pile {
     pub n: u8,
     pub floor: u32,
@@ -38,14 +40,14 @@ pub struct Pile {
 }
 
 // What an act, the constructor and a fetch hand back: a refusal's number or 0, and the record.
-#[derive(Drop)]
+#[derive(Clone, Copy)]
 pub struct Outcome {
     pub answer: u8,
     pub pile: Pile,
 }
 
 // What a query hands back: tonnes, or the refusal's number alone.
-#[derive(Drop)]
+#[derive(Clone, Copy)]
 pub enum Amount {
     Tonnes(u32),
     Refused(u8),

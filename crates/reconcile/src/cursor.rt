@@ -7,7 +7,7 @@ ghost use Rattle.reconcile.specs.Inner.{read_at, cursor_at, Standing};
 
 use ticket::{Reading, Ticket};
 
-#[derive(Drop)]
+#[derive(Clone, Copy)]
 pub(crate) struct Cursor {
     // where the head starts
     pub(crate) at: usize,

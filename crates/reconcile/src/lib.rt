@@ -1,4 +1,6 @@
 // The bridge's tickets against the desk's: two lists in lent bytes, walked once together.
+#![tactic(auto)]
+
 mod cursor;
 mod walk;
 
@@ -13,7 +15,7 @@ use walk::{Walk, judge, step};
 const LIST_LIMIT: usize = 4_096;
 
 // What comparing two lists hands back: a refusal's number or 0, and the counts of ticket numbers, all zeros where it is refused.
-#[derive(Drop)]
+#[derive(Clone, Copy)]
 pub struct Reconciliation {
     pub answer: u8,
     pub alike: u32,

@@ -7,7 +7,7 @@ ghost use Rattle.reconcile.specs.Inner.{Walked};
 use crate::cursor::{Cursor, advance};
 use ticket::Ticket;
 
-#[derive(Drop)]
+#[derive(Clone, Copy)]
 pub(crate) struct Walk {
     pub(crate) bridge: Cursor,
     pub(crate) desk: Cursor,

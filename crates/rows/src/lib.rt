@@ -1,4 +1,6 @@
 // Two rows of a desk, each in a slice of bytes: which of them is later, and the later one handed on.
+#![tactic(auto)]
+
 ghost use Rattle.std.specs.Prelude.{◌≡◌, cond};
 ghost use Rattle.rules.specs.Rows.{compared, is_copy_later, later_row};
 ghost use Rattle.rows.specs.Comparisons.{as_comparison};
@@ -7,7 +9,7 @@ use layout::lengths::{NUMBER, is_row_length};
 use number::get4;
 
 // What comparing two rows tells: they are alike, mine is later, the copy's is, or they are split. Slices that are no two rows of one length are refused.
-#[derive(Drop)]
+#[derive(Clone, Copy)]
 pub enum Comparison {
     Alike,
     MineLater,

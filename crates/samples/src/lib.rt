@@ -1,4 +1,6 @@
 // What the test programs share: how answers, amounts and records are printed, and the list that opens the longest book.
+#![tactic(auto)]
+
 mod longest;
 mod print;
 

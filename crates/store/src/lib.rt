@@ -1,4 +1,6 @@
 // A pile out of a book and into it: as a record, and as the list of a record's numbers.
+#![tactic(auto)]
+
 mod same;
 
 ghost use Rattle.std.specs.Prelude.{◌≡◌, length};

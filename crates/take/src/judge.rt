@@ -42,7 +42,7 @@ fn alike_at(own: &[u8], copy: &[u8], at: usize, row: usize) -> bool
 }
 
 // What is said of a row: 31, 32 or 0, and whether the copy's is later.
-#[derive(Drop)]
+#[derive(Clone, Copy)]
 struct Judged {
     pub answer: u8,
     pub later: bool,

@@ -1,5 +1,7 @@
 // The take of another desk's copy into the own book, a state-based merge. Both books are checked whole first; a take writes the rows that are later in the
 // copy, and a refused call nothing.
+#![tactic(auto)]
+
 mod judge;
 mod merge;
 
@@ -12,7 +14,7 @@ use layout::lengths::{ROWS, row_length};
 use merge::{count_marks, take_rows};
 
 // What a take answers: its refusal's number or 0, and how many pile and desk pairs have another row now; 0 beside a refusal's number.
-#[derive(Drop)]
+#[derive(Clone, Copy)]
 pub struct Taken {
     pub answer: u8,
     pub changed: u32,

@@ -1,4 +1,6 @@
 // Weighbridge tickets: read from any bytes, and written into a lent buffer.
+#![tactic(auto)]
+
 mod fields;
 mod packed;
 
@@ -13,7 +15,7 @@ use packed::{pack, unpack};
 const NO_ROOM: u8 = 8;
 
 // A ticket by value: the load's number on the bridge, its pile and tonnes, its kind (1 tip, 2 draw) and its desk. Any values of the types.
-#[derive(Drop)]
+#[derive(Clone, Copy)]
 pub struct Ticket {
     pub number: u32,
     pub pile: u32,
@@ -23,7 +25,7 @@ pub struct Ticket {
 }
 
 // What a reading hands back: a refusal's number or 0, and the ticket, all zeros where it is refused.
-#[derive(Drop)]
+#[derive(Clone, Copy)]
 pub struct Reading {
     pub answer: u8,
     pub ticket: Ticket,

@@ -26,7 +26,7 @@ fn pair_byte(x: u8) -> u8
 }
 
 // What packed bytes say: whether all digits are right, and their number.
-#[derive(Drop)]
+#[derive(Clone, Copy)]
 pub(crate) struct Unpacked {
     pub(crate) right: bool,
     pub(crate) number: u32,

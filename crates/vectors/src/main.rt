@@ -1,6 +1,8 @@
 // The worked book's pile as a record, then (`file.rt`) its file, and (`sure.rt`) what its desks can be sure of. The record: F, the acts that make G of
 // it, and what the table refuses on the way and from G. Each line has the act, its answer, and then the tonnage and the draw and tip rights of desks 0,
 // 1 and 2 of the record that came back.
+#![tactic(auto)]
+
 mod file;
 mod sure;
 mod tickets;
