@@ -1,5 +1,4 @@
 -- `is_row_length` asks for a multiple of 8 from 16 to 72, and these are the eight lengths.
--- Assumes nothing.
 use Prim.Native.Nat.{ℕ, suc, ◌+◌, ◌-◌, ◌*◌, ◌/◌, ◌%◌, ◌≤◌}
 use native.Mathlib.Nat.{not-le_of_lt}
 use native.Mathlib.Omega.{arith}
@@ -11,8 +10,7 @@ use Rattle.rules.specs.Layout.{row_length}
 use Rattle.rules.specs.Rows.{is_row_length}
 use Rattle.rules.proofs.Loops.Logic.{same}
 use Rattle.rules.proofs.Loops.Every.{every_fails, some_at}
-use Rattle.layout.proofs.lengths.is_row_length.Statement.{statement}
-use Rattle.layout.proofs.lengths.is_row_length.Tie as tie
+use Rattle.layout.proofs.lengths.is_row_length.Goals as goal
 
 -- 8(n + 1) with n = k + 1 for a k below 8, both ways
 of_length : (ℓ : ℕ) → is_row_length ℓ ≡ true → (ℓ % 8 ≡ 0) × (16 ≤ ℓ) × (ℓ ≤ 72)
@@ -27,15 +25,12 @@ to_length : (ℓ : ℕ) → ℓ % 8 ≡ 0 → 16 ≤ ℓ → ℓ ≤ 72 → is_r
 unfolding is_row_length row_length
 to_length ℓ whole least most = some_at 8 _ (ℓ / 8 - 2) (omega arith) (eq-eqb ℓ (8 * (suc (ℓ / 8 - 2) + 1)) (omega arith))
 
-returns : tie.Need-returns
-returns c = same _ _ (λ e. absurd (false≢true e)) (λ e. absurd (c.if1.true (of_length _ e).0))
+pub returns-then-len-ne0 : goal.returns-then-len-ne0
+returns-then-len-ne0 c = same _ _ (λ e. absurd (false≢true e)) (λ e. absurd (c.if-len-ne0.true (of_length _ e).0))
 
-returns-2 : tie.Need-returns-2
-returns-2 c =
-    same _ _ (λ e. to_length _ c.before.if1.false c.if2.true (leb-true _ _ e)) (λ e. le-leb _ _ (of_length _ e).2)
+pub returns-then-len-ge16 : goal.returns-then-len-ge16
+returns-then-len-ge16 c =
+    same _ _ (λ e. to_length _ c.if-len-ne0.false c.if-len-ge16.true (leb-true _ _ e)) (λ e. le-leb _ _ (of_length _ e).2)
 
-returns-3 : tie.Need-returns-3
-returns-3 c = same _ _ (λ e. absurd (not-le_of_lt c.if2.false (leb-true _ _ e))) (λ e. le-leb _ _ (of_length _ e).1)
-
-pub is_row_length_spec : {M : Type 1} → statement M
-is_row_length_spec = tie.close (tie.spec returns returns-2 returns-3)
+pub returns-else-len-ge16 : goal.returns-else-len-ge16
+returns-else-len-ge16 c = same _ _ (λ e. absurd (not-le_of_lt c.if-len-ge16.false (leb-true _ _ e))) (λ e. le-leb _ _ (of_length _ e).1)
