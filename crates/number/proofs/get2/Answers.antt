@@ -9,13 +9,13 @@ use Rattle.number.proofs.Laws.{number_past}
 use Rattle.number.proofs.get2.Goals as goal
 
 pub pair-requires : goal.pair-requires
-pair-requires c = ltb-false _ _ (sym c.short.ensures ∙ not-true _ c.if-not-short.true-raw)
+pair-requires c = ltb-false _ _ (sym c.short.ensures ∙ c.if-not-short.true)
 
 pub returns-then-at-s : goal.returns-then-at-s
 unfolding number
 returns-then-at-s c =
     let args = c.args in
-    let past = ltb-true (length args.s.now) (args.at + 2) (sym c.short.ensures ∙ not-false _ c.if-not-short.false-raw) in
+    let past = ltb-true (length args.s.now) (args.at + 2) (sym c.short.ensures ∙ c.if-not-short.false) in
     omega (arith, number_past 1 args.s.now (suc args.at) (omega arith))
 
 pub returns : goal.returns

@@ -9,7 +9,7 @@ use Rattle.number.proofs.get4.Goals as goal
 use Rattle.number.proofs.get4.Goals.{Then-not-short}
 
 room : (c : Then-not-short) → c.args.at + 4 ≤ length c.args.s.now
-room c = ltb-false _ _ (sym c.short.ensures ∙ not-true _ c.if-not-short.true-raw)
+room c = ltb-false _ _ (sym c.short.ensures ∙ c.if-not-short.true)
 
 pub pair-requires : goal.pair-requires
 pair-requires c = omega (arith, room (goal.at.pair-requires c).Then-not-short)

@@ -11,10 +11,10 @@ returns-then-head-ne-VERSION c = sym (and_left_fails (ne_eqb _ 1 c.if-head-ne-VE
 
 pub returns-then-not-sizes_in_range : goal.returns-then-not-sizes_in_range
 unfolding head_sound
-returns-then-not-sizes_in_range c = sym (and_right_fails _ (and_left_fails (fails c.sizes_in_range.ensures c.if-not-sizes_in_range.true-raw) _))
+returns-then-not-sizes_in_range c = sym (and_right_fails _ (and_left_fails (sym c.sizes_in_range.ensures ∙ c.if-not-sizes_in_range.true) _))
 
 pub returns : goal.returns
 unfolding head_sound
 returns c =
-    and_left_holds (holds c.sizes_in_range.ensures c.if-not-sizes_in_range.false-raw) _
+    and_left_holds (sym c.sizes_in_range.ensures ∙ c.if-not-sizes_in_range.false) _
     ∙ and_left_holds (eq-eqb _ 1 c.if-head-ne-VERSION.false) _
