@@ -1,0 +1,8 @@
+-- `word` reads the number of the 4 bytes that it takes out.
+use Rattle.rules.proofs.Bytes.Numbers.{number_read}
+use borrow.Author.Rules.{rules}
+use Rattle.audit.proofs.cells.word.Goals as goal
+
+pub returns : goal.returns
+returns c =
+    let a = c.args in (number_read 4 a.body.now a.at c.get4.ensures, search rules)

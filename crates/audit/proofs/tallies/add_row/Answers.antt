@@ -1,0 +1,75 @@
+-- `add_row` adds one number after the other, to the sum and to the total at its place.
+use Prim.Native.Nat.{ℕ, ◌+◌}
+use native.Mathlib.Nat.{not-suc-le-zero, le_refl}
+use native.Mathlib.Omega.{arith}
+use mathlib.Core.Path.{◌≡◌, refl, ap, ap₂, sym, ◌∙◌}
+use lib.ListN.{get_or}
+use lib.Seq.{get_or-set_other}
+use Rattle.rules.specs.Loops as loops
+use Rattle.rules.specs.Numbers.{number}
+use Rattle.rules.specs.Pile.{side_of}
+use Rattle.rules.specs.Layout.{cell_at}
+use Rattle.rules.proofs.Loops.Arrays.{sum_next, set_next}
+use Rattle.audit.proofs.Places.{on_column}
+use borrow.Author.Count.{below_more}
+use borrow.Author.Rules.{rules}
+use Rattle.audit.proofs.tallies.add_row.Goals as goal
+use Rattle.audit.proofs.tallies.add_row.Goals.{After-cell-x, At-loop-j}
+use Rattle.audit.proofs.tallies.add_row.Invariants.{given}
+
+-- the number that this turn reads, and the total that it is added to
+number_is : (c : After-cell-x) → let a = c.args in
+    c.cell-x.result ≡ given a.body.now a.n a.row (side_of a.side) c.loop-j.j
+number_is c =
+    let a = c.args in
+    c.cell-x.ensures.0 ∙ ap (λ (k : ℕ). number 4 a.body.now (cell_at a.n a.row k)) c.side_column.ensures
+
+total_is : (at : At-loop-j) → get_or at.loop-j.totals at.loop-j.j 0 ≡ get_or at.args.totals.now at.loop-j.j 0
+total_is at = at.loop-j.invariant.4 at.loop-j.j (le_refl at.loop-j.j)
+
+pub loop-j-init : goal.loop-j-init
+unfolding loops.sum
+loop-j-init c = (
+  search rules,
+  refl,
+  search rules,
+  record { long = c.requires.long; added = λ j l. absurd (not-suc-le-zero l); most = λ j l. absurd (not-suc-le-zero l) },
+  λ k l. refl,
+)
+
+pub cell-x-requires : goal.cell-x-requires
+cell-x-requires c =
+    on_column c.requires.body c.requires.row_most (side_of c.args.side) c.loop-j-test.true c.side_column.ensures
+
+pub bounds-totals-place : goal.bounds-totals-place
+bounds-totals-place c = search (rules, c.requires.body.desks_most)
+
+pub overflow_add-totals : goal.overflow_add-totals
+overflow_add-totals c =
+    omega (arith, total_is (goal.at.overflow_add-totals c).At-loop-j, c.requires.room c.loop-j.j c.loop-j-test.true, c.cell-x.ensures.1)
+
+pub bounds-totals-place-in-loop-j : goal.bounds-totals-place-in-loop-j
+bounds-totals-place-in-loop-j c = search (rules, c.requires.body.desks_most)
+
+pub loop-j-preserved : goal.loop-j-preserved
+loop-j-preserved c =
+    let a = c.args in
+    let inv = c.loop-j.invariant in
+    let row = given a.body.now a.n a.row (side_of a.side) in (
+      search rules,
+      ap₂ ◌+◌ inv.1 (number_is (goal.at.loop-j-preserved c).After-cell-x) ∙ sym (sum_next _ _),
+      omega (arith, c.cell-x.ensures.1),
+      record {
+        long = search rules;
+        added = set_next (λ k x. x ≡ get_or a.totals.now k 0 + row k) c.loop-j.totals c.loop-j.j _ inv.3.added (omega (arith, inv.3.long, c.requires.body.desks_most))
+            (ap₂ ◌+◌ (total_is (goal.at.loop-j-preserved c).At-loop-j) (number_is (goal.at.loop-j-preserved c).After-cell-x));
+        most = λ k l. below_more _ _ inv.3.most (omega (arith, number_is (goal.at.loop-j-preserved c).After-cell-x, c.cell-x.ensures.1)) k l;
+      },
+      λ k l. get_or-set_other c.loop-j.totals c.loop-j.j k _ 0 (λ e. omega arith) ∙ inv.4 k (omega arith),
+    )
+
+pub returns : goal.returns
+returns c =
+    let done : c.loop-j.j ≡ c.args.n = omega arith in
+    let inv = rw done at c.loop-j.invariant in
+    record { sum = (inv.1, omega (arith, inv.2, c.requires.body.desks_most)); totals = inv.3 }
