@@ -1,0 +1,21 @@
+-- `pack_run` writes one number after the other, each behind the one before it.
+use Prim.Native.Nat.{ℕ, ◌+◌, ◌-◌, ◌*◌}
+use native.Mathlib.Omega.{arith}
+use mathlib.Core.Path.{refl}
+use Rattle.rules.specs.Numbers.{bytes}
+use Rattle.rules.proofs.Bytes.Numbers.{length_bytes, encode_list}
+use Rattle.rules.proofs.Loops.Writing.{none_written, next_written, all_written}
+use Rattle.padding.proofs.Parts.{put_in_part}
+use Rattle.padding.proofs.packed.pack_run.Goals as goal
+
+pub loop-k-init : goal.loop-k-init
+loop-k-init c = none_written
+
+pub loop-k-preserved : goal.loop-k-preserved
+loop-k-preserved c =
+    let to : ℕ = c.args.at + c.loop-k.k * 4 in
+    next_written 4 (λ j _. length_bytes 4 _) c.loop-k.invariant c.loop-k-test.true refl
+    (put_in_part c.loop-k.bytes to (to + 4 - to) _ c.put4.ensures.1 (omega arith) (omega (arith, c.loop-k.invariant.long)))
+
+pub returns : goal.returns
+returns c = rw encode_list (all_written c.loop-k.invariant (omega arith))
