@@ -1,0 +1,62 @@
+-- `body` hands out the part of the book that starts at the position that its contents has.
+use Prim.Native.Nat.{ℕ, ◌+◌, ◌-◌, ◌≤◌}
+use native.Mathlib.Omega.{arith}
+use mathlib.Core.Path.{◌≡◌, ap, ◌∙◌}
+use mathlib.Core.List.{List}
+use lib.ListN.{length}
+use Rattle.rules.specs.Numbers.{part, part_place}
+use Rattle.rules.specs.Layout.{Head, head_of, desks, body_length}
+use Rattle.rules.specs.Opening.{body_size}
+use Rattle.rules.proofs.File.BodySize.{size_in_range}
+use Rattle.rules.proofs.File.Readable.{BookFacts, book_facts}
+use Rattle.rules.proofs.File.Positions.{body_within}
+use Rattle.layout.proofs.Positions.{head_there}
+use Rattle.book.proofs.Replies.{HasPlace, has_place, part_refused, start_refused, part_found, start_found}
+use borrow.Author.Rules.{rules}
+use Rattle.book.proofs.body.Goals as goal
+use Rattle.book.proofs.body.Goals.{After-body_length-size, Else-refusal-ne0}
+
+-- The pile was found: the book is readable, and its place is one of the contents.
+abbrev bytes : Else-refusal-ne0 → List ℕ
+bytes c = c.args.book.now
+
+abbrev k : Else-refusal-ne0 → ℕ
+k c = c.find-found.result.place
+
+placed : (c : Else-refusal-ne0) → HasPlace (bytes c) (k c)
+placed c = has_place 0 _ _ c.find-found.ensures.answer c.if-refusal-ne0.false (c.find-found.ensures.place c.if-refusal-ne0.false)
+
+abbrev facts : (c : Else-refusal-ne0) → BookFacts (bytes c)
+facts c = book_facts _ (placed c).readable
+
+-- the body that is handed out lies in the book
+sized : (c : After-body_length-size) → c.body_length-size.result ≡ body_length (desks (bytes (goal.at.After-body_length-size c).Else-refusal-ne0))
+sized c =
+    let s = (facts (goal.at.After-body_length-size c).Else-refusal-ne0).sizes in
+    c.body_length-size.ensures ∙ ap (λ (h : Head). body_size h.desks) (c.head_of-head.ensures ∙ head_there _ (facts (goal.at.After-body_length-size c).Else-refusal-ne0).long)
+    ∙ size_in_range _ s.desks_least s.desks_most
+
+within : (c : After-body_length-size) → c.position-at.result + c.body_length-size.result ≤ length (bytes (goal.at.After-body_length-size c).Else-refusal-ne0)
+within c =
+    let f = facts (goal.at.After-body_length-size c).Else-refusal-ne0 in
+    omega (arith, c.position-at.ensures, f.placed (k (goal.at.After-body_length-size c).Else-refusal-ne0) (placed (goal.at.After-body_length-size c).Else-refusal-ne0).below, sized c, f.sized, body_within (head_of (bytes (goal.at.After-body_length-size c).Else-refusal-ne0)) (k (goal.at.After-body_length-size c).Else-refusal-ne0) (placed (goal.at.After-body_length-size c).Else-refusal-ne0).below)
+
+pub returns-then-refusal-ne0 : goal.returns-then-refusal-ne0
+returns-then-refusal-ne0 c =
+    let d = c.if-refusal-ne0.true in
+    record { bytes = part_refused _ _ c.find-found.ensures.answer d; place = ap (part_place c.args.book.ref_ptr) (start_refused _ _ c.find-found.ensures.answer d) }
+
+pub overflow_add-result : goal.overflow_add-result
+overflow_add-result c = search (rules, within (goal.at.overflow_add-result c).After-body_length-size)
+
+pub slice_bounds-result-end-2 : goal.slice_bounds-result-end-2
+slice_bounds-result-end-2 c = search (rules, within (goal.at.slice_bounds-result-end-2 c).After-body_length-size)
+
+pub returns : goal.returns
+returns c =
+    let book = c.args.book in
+    let from = c.position-at.result in
+    let size = c.body_length-size.result in
+    let long : from + size - from ≡ size = omega arith in
+    let k_is = c.find-found.ensures.place c.if-refusal-ne0.false in
+    record { bytes = ap (λ (n : ℕ). part from n book.now) long ∙ part_found _ _ c.find-found.ensures.answer c.if-refusal-ne0.false k_is c.position-at.ensures (sized (goal.at.returns c).After-body_length-size); place = ap (part_place book.ref_ptr) (start_found _ _ c.find-found.ensures.answer c.if-refusal-ne0.false k_is c.position-at.ensures) }
