@@ -2,7 +2,6 @@
 use Prim.Native.Nat.{ℕ, ◌+◌, ◌-◌, ◌≤◌}
 use native.Mathlib.Omega.{arith}
 use mathlib.Core.Path.{◌≡◌, ap, ◌∙◌}
-use mathlib.Core.List.{List}
 use lib.ListN.{length}
 use Rattle.rules.specs.Numbers.{part, part_place}
 use Rattle.rules.specs.Layout.{Head, head_of, desks, body_length}
@@ -16,30 +15,23 @@ use borrow.Author.Rules.{rules}
 use Rattle.book.proofs.body.Goals as goal
 use Rattle.book.proofs.body.Goals.{After-body_length-size, Else-refusal-ne0}
 
--- The pile was found: the book is readable, and its place is one of the contents.
-abbrev bytes : Else-refusal-ne0 → List ℕ
-bytes c = c.args.book.now
-
-abbrev k : Else-refusal-ne0 → ℕ
-k c = c.find-found.result.place
-
-placed : (c : Else-refusal-ne0) → HasPlace (bytes c) (k c)
+placed : (c : Else-refusal-ne0) → HasPlace c.args.book.now c.find-found.result.place
 placed c = has_place 0 _ _ c.find-found.ensures.answer c.if-refusal-ne0.false (c.find-found.ensures.place c.if-refusal-ne0.false)
 
-abbrev facts : (c : Else-refusal-ne0) → BookFacts (bytes c)
+abbrev facts : (c : Else-refusal-ne0) → BookFacts c.args.book.now
 facts c = book_facts _ (placed c).readable
 
 -- the body that is handed out lies in the book
-sized : (c : After-body_length-size) → c.body_length-size.result ≡ body_length (desks (bytes (goal.at.After-body_length-size c).Else-refusal-ne0))
+sized : (c : After-body_length-size) → c.body_length-size.result ≡ body_length (desks c.args.book.now)
 sized c =
     let s = (facts (goal.at.After-body_length-size c).Else-refusal-ne0).sizes in
     c.body_length-size.ensures ∙ ap (λ (h : Head). body_size h.desks) (c.head_of-head.ensures ∙ head_there _ (facts (goal.at.After-body_length-size c).Else-refusal-ne0).long)
     ∙ size_in_range _ s.desks_least s.desks_most
 
-within : (c : After-body_length-size) → c.position-at.result + c.body_length-size.result ≤ length (bytes (goal.at.After-body_length-size c).Else-refusal-ne0)
+within : (c : After-body_length-size) → c.position-at.result + c.body_length-size.result ≤ length c.args.book.now
 within c =
     let f = facts (goal.at.After-body_length-size c).Else-refusal-ne0 in
-    omega (arith, c.position-at.ensures, f.placed (k (goal.at.After-body_length-size c).Else-refusal-ne0) (placed (goal.at.After-body_length-size c).Else-refusal-ne0).below, sized c, f.sized, body_within (head_of (bytes (goal.at.After-body_length-size c).Else-refusal-ne0)) (k (goal.at.After-body_length-size c).Else-refusal-ne0) (placed (goal.at.After-body_length-size c).Else-refusal-ne0).below)
+    omega (arith, c.position-at.ensures, f.placed c.find-found.result.place (placed (goal.at.After-body_length-size c).Else-refusal-ne0).below, sized c, f.sized, body_within (head_of c.args.book.now) c.find-found.result.place (placed (goal.at.After-body_length-size c).Else-refusal-ne0).below)
 
 pub returns-then-refusal-ne0 : goal.returns-then-refusal-ne0
 returns-then-refusal-ne0 c =
