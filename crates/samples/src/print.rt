@@ -1,47 +1,43 @@
 // Lines of a test program, on standard output. What is written no promise can say.
-ghost use Rattle.std.specs.Prelude.{◌≡◌};
+ghost use Rattle.std.specs.Prelude.{◌≡◌, IfOk};
 
-use libc::STDOUT_FILENO;
 use pile::{Amount, Outcome, Pile};
+use std::io;
+use std::io::Write;
 
-pub fn text(s: &[u8]) {
-    io::write_all(STDOUT_FILENO, s);
+pub fn text(rt: &impl Print, s: &[u8]) -> io::Result<()> {
+    io::writer(rt).write_all(s)
 }
 
-pub fn decimal(x: u64) {
-    io::print_decimal(STDOUT_FILENO, x);
+pub fn decimal(rt: &impl Print, x: u64) -> io::Result<()> {
+    print!(rt; "{x}")
 }
 
-pub fn amount(a: Amount) {
-    text(b" ");
+pub fn amount(rt: &impl Print, a: Amount) -> io::Result<()> {
     match a {
-        Amount::Tonnes(x) => decimal(x as u64),
-        Amount::Refused(k) => {
-            text(b"refused ");
-            decimal(k as u64);
-        }
+        Amount::Tonnes(x) => print!(rt; " {x}"),
+        Amount::Refused(k) => print!(rt; " refused {k}"),
     }
 }
 
 // A line with a label, an answer, and the tonnage and the draw and tip rights of desks 0, 1 and 2 of the record beside it, which is handed back for the
 // next act.
-pub fn line(label: &[u8], e: Outcome) -> Pile
-    ensures { result ≡ e.pile }
+pub fn line(rt: &impl Print, label: &[u8], e: Outcome) -> io::Result<Pile>
+    ensures { IfOk result (λ p. p ≡ e.pile) }
 {
-    text(label);
-    text(b": ");
-    decimal(e.answer as u64);
+    text(rt, label)?;
+    let answer = e.answer;
     let p = e.pile;
-    text(b" known");
-    amount(p.tonnage());
-    text(b" draw");
-    amount(p.draw_rights(0));
-    amount(p.draw_rights(1));
-    amount(p.draw_rights(2));
-    text(b" tip");
-    amount(p.tip_rights(0));
-    amount(p.tip_rights(1));
-    amount(p.tip_rights(2));
-    text(b"\n");
-    p
+    print!(rt; ": {answer} known")?;
+    amount(rt, p.tonnage())?;
+    print!(rt; " draw")?;
+    amount(rt, p.draw_rights(0))?;
+    amount(rt, p.draw_rights(1))?;
+    amount(rt, p.draw_rights(2))?;
+    print!(rt; " tip")?;
+    amount(rt, p.tip_rights(0))?;
+    amount(rt, p.tip_rights(1))?;
+    amount(rt, p.tip_rights(2))?;
+    println!(rt;)?;
+    Ok(p)
 }
