@@ -2,29 +2,32 @@
 use crate::{end, wide};
 use rows::{Comparison, compare, later_row};
 use samples::{decimal, text};
+use std::io;
 
-fn order(x: Comparison) {
+fn order(rt: &impl Print, x: Comparison) -> io::Result<()> {
     match x {
-        Comparison::Alike => text(b" alike"),
-        Comparison::MineLater => text(b" mine later"),
-        Comparison::CopyLater => text(b" the copy's later"),
-        Comparison::Split => text(b" split"),
+        Comparison::Alike => text(rt, b" alike")?,
+        Comparison::MineLater => text(rt, b" mine later")?,
+        Comparison::CopyLater => text(rt, b" the copy's later")?,
+        Comparison::Split => text(rt, b" split")?,
         Comparison::Refused(number) => {
-            text(b" refused ");
-            decimal(number as u64);
+            text(rt, b" refused ")?;
+            decimal(rt, number as u64)?;
         }
     }
+    Ok(())
 }
 
-fn handed(row: &[u8]) {
+fn handed(rt: &impl Print, row: &[u8]) -> io::Result<()> {
     if row.len() == 0 {
-        text(b" empty");
+        text(rt, b" empty")?;
     } else {
-        text(b" bytes ");
-        decimal(row.len() as u64);
-        text(b" from ");
-        decimal(wide(row[0]));
+        text(rt, b" bytes ")?;
+        decimal(rt, row.len() as u64)?;
+        text(rt, b" from ")?;
+        decimal(rt, wide(row[0]))?;
     }
+    Ok(())
 }
 
 fn line<'a>(label: &[u8], a: &'a [u8], b: &'a [u8]) {

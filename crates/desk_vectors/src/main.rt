@@ -12,6 +12,7 @@ mod worked;
 
 use book::{draw_rights, tip_rights, tonnage};
 use samples::{amount, decimal, text};
+use std::io;
 use take::Taken;
 
 pub(crate) fn wide(x: u8) -> u64 {
@@ -47,71 +48,84 @@ fn same(a: &[u8], b: &[u8]) -> bool {
 }
 
 // A call and its answer.
-pub(crate) fn answer(label: &[u8], x: u8) {
-    text(label);
-    text(b": ");
-    decimal(x as u64);
+pub(crate) fn answer(rt: &impl Print, label: &[u8], x: u8) -> io::Result<()> {
+    text(rt, label)?;
+    text(rt, b": ")?;
+    decimal(rt, x as u64)
 }
 
 // Whether the bytes after a call are those before it, with their sum.
-fn left(before: &[u8], after: &[u8]) {
+fn left(rt: &impl Print, before: &[u8], after: &[u8]) -> io::Result<()> {
     if same(before, after) {
-        text(b" unaltered ");
+        text(rt, b" unaltered ")?;
     } else {
-        text(b" altered ");
+        text(rt, b" altered ")?;
     }
-    decimal(sum(after));
+    decimal(rt, sum(after))
 }
 
 // A call, its answer, and what it left.
-pub(crate) fn outcome(label: &[u8], x: u8, before: &[u8], after: &[u8]) {
-    answer(label, x);
-    left(before, after);
+pub(crate) fn outcome(
+    rt: &impl Print,
+    label: &[u8],
+    x: u8,
+    before: &[u8],
+    after: &[u8],
+) -> io::Result<()> {
+    answer(rt, label, x)?;
+    left(rt, before, after)
 }
 
 // A take and its answer: the refusal's number or 0, and how many rows changed; then the bytes as above.
-pub(crate) fn taken(label: &[u8], x: Taken, before: &[u8], after: &[u8]) {
-    answer(label, x.answer);
-    text(b" reports ");
-    decimal(x.changed as u64);
-    left(before, after);
+pub(crate) fn taken(
+    rt: &impl Print,
+    label: &[u8],
+    x: Taken,
+    before: &[u8],
+    after: &[u8],
+) -> io::Result<()> {
+    answer(rt, label, x.answer)?;
+    text(rt, b" reports ")?;
+    decimal(rt, x.changed as u64)?;
+    left(rt, before, after)
 }
 
 // Two books compared.
-pub(crate) fn alike(label: &[u8], a: &[u8], b: &[u8]) {
-    text(label);
+pub(crate) fn alike(rt: &impl Print, label: &[u8], a: &[u8], b: &[u8]) -> io::Result<()> {
+    text(rt, label)?;
     if same(a, b) {
-        text(b": alike\n");
+        text(rt, b": alike\n")?;
     } else {
-        text(b": not alike\n");
+        text(rt, b": not alike\n")?;
     }
+    Ok(())
 }
 
 // What a book says of a pile: its tonnage, and the draw and tip rights of desks 0 and 1.
-pub(crate) fn pile_of(book: &[u8], number: u16) {
-    text(b" known");
-    amount(tonnage(book, number));
-    rights(book, 0, number);
-    rights(book, 1, number);
+pub(crate) fn pile_of(rt: &impl Print, book: &[u8], number: u16) -> io::Result<()> {
+    text(rt, b" known")?;
+    amount(rt, tonnage(book, number))?;
+    rights(rt, book, 0, number)?;
+    rights(rt, book, 1, number)
 }
 
-pub(crate) fn rights(book: &[u8], desk: u8, number: u16) {
-    text(b" draw");
-    amount(draw_rights(book, desk, number));
-    text(b" tip");
-    amount(tip_rights(book, desk, number));
+pub(crate) fn rights(rt: &impl Print, book: &[u8], desk: u8, number: u16) -> io::Result<()> {
+    text(rt, b" draw")?;
+    amount(rt, draw_rights(book, desk, number))?;
+    text(rt, b" tip")?;
+    amount(rt, tip_rights(book, desk, number))
 }
 
-pub(crate) fn end() {
-    text(b"\n");
+pub(crate) fn end(rt: &impl Print) -> io::Result<()> {
+    text(rt, b"\n")
 }
 
-fn main() {
-    worked::run();
-    takes::run();
-    refused::run();
-    broken::run();
+fn main(rt: HostRuntime) -> io::Result<()> {
+    worked::run(&rt)?;
+    takes::run(&rt)?;
+    refused::run(&rt)?;
+    broken::run(&rt)?;
     later::run();
-    news::run();
-    longest::run();
+    news::run(&rt)?;
+    longest::run(&rt)
 }

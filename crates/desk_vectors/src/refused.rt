@@ -5,10 +5,11 @@ use crate::broken::{opening_wrong, rights_negative, tally_over, with};
 use crate::takes::{LENGTH, h};
 use crate::{end, outcome};
 use desk::{draw, give_draw, tip};
+use std::io;
 
-fn line(label: &[u8], answer: u8, before: &[u8], after: &[u8]) {
-    outcome(label, answer, before, after);
-    end();
+fn line(rt: &impl Print, label: &[u8], answer: u8, before: &[u8], after: &[u8]) -> io::Result<()> {
+    outcome(rt, label, answer, before, after)?;
+    end(rt)
 }
 
 // A give of draw rights in the first bytes of a book alone, by no desk, of no pile, to no desk.
@@ -19,50 +20,95 @@ fn give_first(book: &mut [u8], count: usize) -> u8 {
     0
 }
 
-fn gives_first(label: &[u8], before: [u8; LENGTH], count: usize) {
+fn gives_first(
+    rt: &impl Print,
+    label: &[u8],
+    before: [u8; LENGTH],
+    count: usize,
+) -> io::Result<()> {
     let mut book = before;
     let answer = give_first(&mut book, count);
-    line(label, answer, &before, &book);
+    line(rt, label, answer, &before, &book)
 }
 
-fn gives(label: &[u8], before: [u8; LENGTH], desk: u8, number: u16, receiver: u8, amount: u32) {
+fn gives(
+    rt: &impl Print,
+    label: &[u8],
+    before: [u8; LENGTH],
+    desk: u8,
+    number: u16,
+    receiver: u8,
+    amount: u32,
+) -> io::Result<()> {
     let mut book = before;
     let answer = give_draw(&mut book, desk, number, receiver, amount);
-    line(label, answer, &before, &book);
+    line(rt, label, answer, &before, &book)
 }
 
-fn tips(label: &[u8], before: [u8; LENGTH], amount: u32) {
+fn tips(rt: &impl Print, label: &[u8], before: [u8; LENGTH], amount: u32) -> io::Result<()> {
     let mut book = before;
     let answer = tip(&mut book, 0, 9, amount);
-    line(label, answer, &before, &book);
+    line(rt, label, answer, &before, &book)
 }
 
-fn draws(label: &[u8], before: [u8; LENGTH], amount: u32) {
+fn draws(rt: &impl Print, label: &[u8], before: [u8; LENGTH], amount: u32) -> io::Result<()> {
     let mut book = before;
     let answer = draw(&mut book, 0, 9, amount);
-    line(label, answer, &before, &book);
+    line(rt, label, answer, &before, &book)
 }
 
 // In each of these books the desk, the pile, the receiver and the amount are wrong too.
-fn own(h: [u8; LENGTH]) {
-    gives_first(b"act in 3 bytes", h, 3);
-    gives(b"act in a wrong version", with(h, 0, 2), 2, 6, 2, 0);
-    gives_first(b"act in 159 bytes", h, 159);
-    gives(b"act in a wrong pile number", with(h, 10, 5), 2, 6, 2, 0);
-    gives(b"act in a wrong opening", opening_wrong(h), 2, 6, 2, 0);
-    gives(b"act in a tally over its limit", tally_over(h), 2, 6, 2, 0);
-    gives(b"act in negative rights", rights_negative(h), 2, 6, 2, 0);
+fn own(rt: &impl Print, h: [u8; LENGTH]) -> io::Result<()> {
+    gives_first(rt, b"act in 3 bytes", h, 3)?;
+    gives(rt, b"act in a wrong version", with(h, 0, 2), 2, 6, 2, 0)?;
+    gives_first(rt, b"act in 159 bytes", h, 159)?;
+    gives(
+        rt,
+        b"act in a wrong pile number",
+        with(h, 10, 5),
+        2,
+        6,
+        2,
+        0,
+    )?;
+    gives(rt, b"act in a wrong opening", opening_wrong(h), 2, 6, 2, 0)?;
+    gives(
+        rt,
+        b"act in a tally over its limit",
+        tally_over(h),
+        2,
+        6,
+        2,
+        0,
+    )?;
+    gives(
+        rt,
+        b"act in negative rights",
+        rights_negative(h),
+        2,
+        6,
+        2,
+        0,
+    )
 }
 
-fn arguments(h: [u8; LENGTH]) {
-    gives(b"desk 2 gives draw 0 of 6 to desk 2", h, 2, 6, 2, 0);
-    gives(b"desk 1 gives draw 0 of 6 to desk 2", h, 1, 6, 2, 0);
-    gives(b"desk 1 gives draw 0 of 9 to desk 2", h, 1, 9, 2, 0);
-    gives(b"desk 1 gives draw 0 of 9 to itself", h, 1, 9, 1, 0);
-    gives(b"desk 1 gives draw 0 of 9 to desk 0", h, 1, 9, 0, 0);
-    gives(b"desk 1 gives draw 1001 of 9 to desk 0", h, 1, 9, 0, 1001);
-    gives(b"desk 1 gives draw 3 of 9 to desk 0", h, 1, 9, 0, 3);
-    gives(b"desk 1 gives draw 2 of 9 to desk 0", h, 1, 9, 0, 2);
+fn arguments(rt: &impl Print, h: [u8; LENGTH]) -> io::Result<()> {
+    gives(rt, b"desk 2 gives draw 0 of 6 to desk 2", h, 2, 6, 2, 0)?;
+    gives(rt, b"desk 1 gives draw 0 of 6 to desk 2", h, 1, 6, 2, 0)?;
+    gives(rt, b"desk 1 gives draw 0 of 9 to desk 2", h, 1, 9, 2, 0)?;
+    gives(rt, b"desk 1 gives draw 0 of 9 to itself", h, 1, 9, 1, 0)?;
+    gives(rt, b"desk 1 gives draw 0 of 9 to desk 0", h, 1, 9, 0, 0)?;
+    gives(
+        rt,
+        b"desk 1 gives draw 1001 of 9 to desk 0",
+        h,
+        1,
+        9,
+        0,
+        1001,
+    )?;
+    gives(rt, b"desk 1 gives draw 3 of 9 to desk 0", h, 1, 9, 0, 3)?;
+    gives(rt, b"desk 1 gives draw 2 of 9 to desk 0", h, 1, 9, 0, 2)
 }
 
 // 1,000,000,000 in four bytes of the book.
@@ -75,20 +121,20 @@ fn full(book: [u8; LENGTH], at: usize) -> [u8; LENGTH]
 }
 
 // Desk 0 has tipped and drawn 1,000,000,000 at pile 9, which leaves its rights as they were.
-fn limits(h: [u8; LENGTH]) {
+fn limits(rt: &impl Print, h: [u8; LENGTH]) -> io::Result<()> {
     let limit = full(full(h, 112), 116);
-    tips(b"at the limit desk 0 tips 4", limit, 4);
-    tips(b"at the limit desk 0 tips 3", limit, 3);
-    draws(b"at the limit desk 0 draws 2", limit, 2);
-    draws(b"at the limit desk 0 draws 1", limit, 1);
-    gives(b"at the limit desk 0 gives draw 1", limit, 0, 9, 1, 1);
-    tips(b"desk 0 tips 4 onto 9", h, 4);
-    tips(b"desk 0 tips 3 onto 9", h, 3);
+    tips(rt, b"at the limit desk 0 tips 4", limit, 4)?;
+    tips(rt, b"at the limit desk 0 tips 3", limit, 3)?;
+    draws(rt, b"at the limit desk 0 draws 2", limit, 2)?;
+    draws(rt, b"at the limit desk 0 draws 1", limit, 1)?;
+    gives(rt, b"at the limit desk 0 gives draw 1", limit, 0, 9, 1, 1)?;
+    tips(rt, b"desk 0 tips 4 onto 9", h, 4)?;
+    tips(rt, b"desk 0 tips 3 onto 9", h, 3)
 }
 
-pub(crate) fn run() {
+pub(crate) fn run(rt: &impl Print) -> io::Result<()> {
     let h = h();
-    own(h);
-    arguments(h);
-    limits(h);
+    own(rt, h)?;
+    arguments(rt, h)?;
+    limits(rt, h)
 }

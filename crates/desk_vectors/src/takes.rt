@@ -3,6 +3,7 @@ use crate::broken::{first, give_to_itself, opening_wrong, rights_negative, tally
 use crate::{alike, end, outcome, pile_of, taken};
 use desk::{draw, give_tip, tip};
 use opening::open;
+use std::io;
 use take::{Taken, take};
 
 pub(crate) const LENGTH: usize = 160;
@@ -15,50 +16,88 @@ pub(crate) fn h() -> [u8; LENGTH] {
     book
 }
 
-fn line(label: &[u8], answer: u8, before: &[u8], after: &[u8]) {
-    outcome(label, answer, before, after);
-    end();
+fn line(rt: &impl Print, label: &[u8], answer: u8, before: &[u8], after: &[u8]) -> io::Result<()> {
+    outcome(rt, label, answer, before, after)?;
+    end(rt)
 }
 
-fn reported(label: &[u8], x: Taken, before: &[u8], after: &[u8]) {
-    taken(label, x, before, after);
-    end();
+fn reported(
+    rt: &impl Print,
+    label: &[u8],
+    x: Taken,
+    before: &[u8],
+    after: &[u8],
+) -> io::Result<()> {
+    taken(rt, label, x, before, after)?;
+    end(rt)
 }
 
-fn tips(label: &[u8], before: [u8; LENGTH], desk: u8, number: u16, amount: u32) -> [u8; LENGTH] {
+fn tips(
+    rt: &impl Print,
+    label: &[u8],
+    before: [u8; LENGTH],
+    desk: u8,
+    number: u16,
+    amount: u32,
+) -> io::Result<[u8; LENGTH]> {
     let mut book = before;
     let answer = tip(&mut book, desk, number, amount);
-    line(label, answer, &before, &book);
-    book
+    line(rt, label, answer, &before, &book)?;
+    Ok(book)
 }
 
-fn draws(label: &[u8], before: [u8; LENGTH], desk: u8, number: u16, amount: u32) -> [u8; LENGTH] {
+fn draws(
+    rt: &impl Print,
+    label: &[u8],
+    before: [u8; LENGTH],
+    desk: u8,
+    number: u16,
+    amount: u32,
+) -> io::Result<[u8; LENGTH]> {
     let mut book = before;
     let answer = draw(&mut book, desk, number, amount);
-    line(label, answer, &before, &book);
-    book
+    line(rt, label, answer, &before, &book)?;
+    Ok(book)
 }
 
 // A take of any bytes, and of a copy as long as H.
-fn takes_bytes(label: &[u8], before: [u8; LENGTH], copy: &[u8], desk: u8) {
+fn takes_bytes(
+    rt: &impl Print,
+    label: &[u8],
+    before: [u8; LENGTH],
+    copy: &[u8],
+    desk: u8,
+) -> io::Result<()> {
     let mut book = before;
     let answer = take(&mut book, copy, desk);
-    reported(label, answer, &before, &book);
+    reported(rt, label, answer, &before, &book)
 }
 
-fn takes(label: &[u8], before: [u8; LENGTH], copy: [u8; LENGTH], desk: u8) {
-    takes_bytes(label, before, &copy, desk);
+fn takes(
+    rt: &impl Print,
+    label: &[u8],
+    before: [u8; LENGTH],
+    copy: [u8; LENGTH],
+    desk: u8,
+) -> io::Result<()> {
+    takes_bytes(rt, label, before, &copy, desk)
 }
 
 // The own book's refusals, 1 and 3 excepted, before the copy's and 11.
-fn own_wrong(h: [u8; LENGTH]) {
+fn own_wrong(rt: &impl Print, h: [u8; LENGTH]) -> io::Result<()> {
     let bad = with(h, 0, 2);
-    takes(b"take into a wrong version", with(h, 0, 2), bad, 2);
-    takes(b"take into a wrong pile number", with(h, 10, 5), bad, 2);
-    takes(b"take into a wrong opening", opening_wrong(h), bad, 2);
-    takes(b"take into a tally over its limit", tally_over(h), bad, 2);
-    takes(b"take into a give to itself", give_to_itself(h), bad, 2);
-    takes(b"take into negative rights", rights_negative(h), bad, 2);
+    takes(rt, b"take into a wrong version", with(h, 0, 2), bad, 2)?;
+    takes(rt, b"take into a wrong pile number", with(h, 10, 5), bad, 2)?;
+    takes(rt, b"take into a wrong opening", opening_wrong(h), bad, 2)?;
+    takes(
+        rt,
+        b"take into a tally over its limit",
+        tally_over(h),
+        bad,
+        2,
+    )?;
+    takes(rt, b"take into a give to itself", give_to_itself(h), bad, 2)?;
+    takes(rt, b"take into negative rights", rights_negative(h), bad, 2)
 }
 
 // A take into the first bytes of a book alone.
@@ -72,174 +111,219 @@ fn take_first(book: &mut [u8], count: usize, copy: &[u8]) -> Taken {
     }
 }
 
-fn into_first(label: &[u8], before: [u8; LENGTH], count: usize) {
+fn into_first(rt: &impl Print, label: &[u8], before: [u8; LENGTH], count: usize) -> io::Result<()> {
     let mut book = before;
     let answer = take_first(&mut book, count, &before);
-    reported(label, answer, &before, &book);
+    reported(rt, label, answer, &before, &book)
 }
 
 // The copy's refusals, 21 to 27, before 11; then 11.
-fn copy_wrong(h: [u8; LENGTH]) {
-    takes_bytes(b"take 3 bytes", h, first(&h, 3), 2);
+fn copy_wrong(rt: &impl Print, h: [u8; LENGTH]) -> io::Result<()> {
+    takes_bytes(rt, b"take 3 bytes", h, first(&h, 3), 2)?;
     let copy = with(h, 0, 2);
-    takes(b"take a wrong version", h, copy, 2);
-    takes_bytes(b"take 159 bytes", h, first(&h, 159), 2);
+    takes(rt, b"take a wrong version", h, copy, 2)?;
+    takes_bytes(rt, b"take 159 bytes", h, first(&h, 159), 2)?;
     let copy = with(h, 10, 5);
-    takes(b"take a wrong pile number", h, copy, 2);
+    takes(rt, b"take a wrong pile number", h, copy, 2)?;
     let copy = opening_wrong(h);
-    takes(b"take a wrong opening", h, copy, 2);
+    takes(rt, b"take a wrong opening", h, copy, 2)?;
     let copy = tally_over(h);
-    takes(b"take a tally over its limit", h, copy, 2);
+    takes(rt, b"take a tally over its limit", h, copy, 2)?;
     let copy = give_to_itself(h);
-    takes(b"take a give to itself", h, copy, 2);
+    takes(rt, b"take a give to itself", h, copy, 2)?;
     let copy = rights_negative(h);
-    takes(b"take negative rights", h, copy, 2);
-    takes(b"take at desk 2 of 2", h, h, 2);
-    takes(b"take at desk 255 of 2", h, h, 255);
+    takes(rt, b"take negative rights", h, copy, 2)?;
+    takes(rt, b"take at desk 2 of 2", h, h, 2)?;
+    takes(rt, b"take at desk 255 of 2", h, h, 255)
 }
 
 // A copy of H opened with another list.
-fn opened_otherwise(label: &[u8], h: [u8; LENGTH], numbers: [u32; 14]) {
+fn opened_otherwise(
+    rt: &impl Print,
+    label: &[u8],
+    h: [u8; LENGTH],
+    numbers: [u32; 14],
+) -> io::Result<()> {
     let mut copy = [0u8; LENGTH];
     open(2, 2, &numbers, &mut copy);
-    takes(label, h, copy, 0);
+    takes(rt, label, h, copy, 0)
 }
 
 // Copies with another n, with one of the piles, and with another pile number or opening.
-fn others(h: [u8; LENGTH]) {
+fn others(rt: &impl Print, h: [u8; LENGTH]) -> io::Result<()> {
     let mut worked = [0u8; 138];
     let numbers = [7, 10, 110, 0, 0, 0, 40, 30, 30];
     open(3, 1, &numbers, &mut worked);
-    takes_bytes(b"take another n", h, &worked, 0);
+    takes_bytes(rt, b"take another n", h, &worked, 0)?;
     let mut one = [0u8; 82];
     let numbers = [5, 10, 50, 4, 6, 20, 10];
     open(2, 1, &numbers, &mut one);
-    takes_bytes(b"take one pile of the two", h, &one, 0);
+    takes_bytes(rt, b"take one pile of the two", h, &one, 0)?;
     opened_otherwise(
+        rt,
         b"take another pile number",
         h,
         [5, 10, 50, 4, 6, 20, 10, 10, 0, 8, 1, 2, 3, 2],
-    );
+    )?;
     opened_otherwise(
+        rt,
         b"take other draw shares",
         h,
         [5, 10, 50, 4, 6, 20, 10, 9, 0, 8, 2, 1, 3, 2],
-    );
+    )?;
     opened_otherwise(
+        rt,
         b"take other tip shares",
         h,
         [5, 10, 50, 4, 6, 20, 10, 9, 0, 8, 1, 2, 2, 3],
-    );
+    )?;
     opened_otherwise(
+        rt,
         b"take another floor and top",
         h,
         [5, 10, 50, 4, 6, 20, 10, 9, 1, 9, 1, 2, 3, 2],
-    );
+    )?;
     opened_otherwise(
+        rt,
         b"take other shares of the first pile",
         h,
         [5, 10, 50, 6, 4, 20, 10, 9, 0, 8, 1, 2, 3, 2],
-    );
+    )?;
     opened_otherwise(
+        rt,
         b"take an equal book",
         h,
         [5, 10, 50, 4, 6, 20, 10, 9, 0, 8, 1, 2, 3, 2],
-    );
+    )
 }
 
 // By pile: in each call one row is split and another later at the taker's desk, and that of the first pile counts.
-fn by_pile(h: [u8; LENGTH]) {
-    let own = tips(b"own: desk 1 tips 1 onto 5", h, 1, 5, 1);
-    let copy = tips(b"copy: desk 0 tips 1 onto 9", h, 0, 9, 1);
-    let copy = draws(b"copy: desk 1 draws 1 from 5", copy, 1, 5, 1);
-    takes(b"desk 0 takes: split in 5, later in 9", own, copy, 0);
-    let own = tips(b"own: desk 0 tips 1 onto 9", h, 0, 9, 1);
-    let copy = tips(b"copy: desk 1 tips 1 onto 5", h, 1, 5, 1);
-    let copy = draws(b"copy: desk 0 draws 1 from 9", copy, 0, 9, 1);
-    takes(b"desk 1 takes: later in 5, split in 9", own, copy, 1);
+fn by_pile(rt: &impl Print, h: [u8; LENGTH]) -> io::Result<()> {
+    let own = tips(rt, b"own: desk 1 tips 1 onto 5", h, 1, 5, 1)?;
+    let copy = tips(rt, b"copy: desk 0 tips 1 onto 9", h, 0, 9, 1)?;
+    let copy = draws(rt, b"copy: desk 1 draws 1 from 5", copy, 1, 5, 1)?;
+    takes(rt, b"desk 0 takes: split in 5, later in 9", own, copy, 0)?;
+    let own = tips(rt, b"own: desk 0 tips 1 onto 9", h, 0, 9, 1)?;
+    let copy = tips(rt, b"copy: desk 1 tips 1 onto 5", h, 1, 5, 1)?;
+    let copy = draws(rt, b"copy: desk 0 draws 1 from 9", copy, 0, 9, 1)?;
+    takes(rt, b"desk 1 takes: later in 5, split in 9", own, copy, 1)
 }
 
 // By desk: the same within one pile, where the first desk's row counts; and a row of the taker's own desk that is split.
-fn by_desk(h: [u8; LENGTH]) {
-    let own = tips(b"own: desk 0 tips 1 onto 5", h, 0, 5, 1);
-    let own = tips(b"own: desk 1 tips 1 onto 5", own, 1, 5, 1);
-    let copy = draws(b"copy: desk 0 draws 1 from 5", h, 0, 5, 1);
-    let copy = tips(b"copy: desk 1 tips 2 onto 5", copy, 1, 5, 2);
-    takes(b"desk 1 takes: desk 0 split, desk 1 later", own, copy, 1);
-    let copy = tips(b"copy: desk 0 tips 2 onto 5", h, 0, 5, 2);
-    let copy = draws(b"copy: desk 1 draws 1 from 5", copy, 1, 5, 1);
-    takes(b"desk 0 takes: desk 0 later, desk 1 split", own, copy, 0);
+fn by_desk(rt: &impl Print, h: [u8; LENGTH]) -> io::Result<()> {
+    let own = tips(rt, b"own: desk 0 tips 1 onto 5", h, 0, 5, 1)?;
+    let own = tips(rt, b"own: desk 1 tips 1 onto 5", own, 1, 5, 1)?;
+    let copy = draws(rt, b"copy: desk 0 draws 1 from 5", h, 0, 5, 1)?;
+    let copy = tips(rt, b"copy: desk 1 tips 2 onto 5", copy, 1, 5, 2)?;
+    takes(
+        rt,
+        b"desk 1 takes: desk 0 split, desk 1 later",
+        own,
+        copy,
+        1,
+    )?;
+    let copy = tips(rt, b"copy: desk 0 tips 2 onto 5", h, 0, 5, 2)?;
+    let copy = draws(rt, b"copy: desk 1 draws 1 from 5", copy, 1, 5, 1)?;
+    takes(
+        rt,
+        b"desk 0 takes: desk 0 later, desk 1 split",
+        own,
+        copy,
+        0,
+    )
 }
 
 // Pile 5's row of desk 0 is later in the copy, and is not written, since in pile 9 the taker's own row is split.
-fn last_pile(h: [u8; LENGTH]) {
-    let own = tips(b"own: desk 1 tips 1 onto 9", h, 1, 9, 1);
-    let copy = draws(b"copy: desk 1 draws 1 from 9", h, 1, 9, 1);
-    takes(b"desk 1 takes: its own row split in 9", own, copy, 1);
-    let copy = tips(b"copy: desk 0 tips 1 onto 5", copy, 0, 5, 1);
+fn last_pile(rt: &impl Print, h: [u8; LENGTH]) -> io::Result<()> {
+    let own = tips(rt, b"own: desk 1 tips 1 onto 9", h, 1, 9, 1)?;
+    let copy = draws(rt, b"copy: desk 1 draws 1 from 9", h, 1, 9, 1)?;
+    takes(rt, b"desk 1 takes: its own row split in 9", own, copy, 1)?;
+    let copy = tips(rt, b"copy: desk 0 tips 1 onto 5", copy, 0, 5, 1)?;
     takes(
+        rt,
         b"desk 1 takes: the same, and a later row in 5",
         own,
         copy,
         1,
-    );
+    )
 }
 
-fn both_piles(book: &[u8]) {
-    pile_of(book, 5);
-    pile_of(book, 9);
-    end();
+fn both_piles(rt: &impl Print, book: &[u8]) -> io::Result<()> {
+    pile_of(rt, book, 5)?;
+    pile_of(rt, book, 9)?;
+    end(rt)
 }
 
-fn merges(label: &[u8], own: [u8; LENGTH], copy: [u8; LENGTH], desk: u8) -> [u8; LENGTH] {
+fn merges(
+    rt: &impl Print,
+    label: &[u8],
+    own: [u8; LENGTH],
+    copy: [u8; LENGTH],
+    desk: u8,
+) -> io::Result<[u8; LENGTH]> {
     let mut book = own;
     let answer = take(&mut book, &copy, desk);
-    taken(label, answer, &own, &book);
-    both_piles(&book);
-    book
+    taken(rt, label, answer, &own, &book)?;
+    both_piles(rt, &book)?;
+    Ok(book)
 }
 
 fn gives(
+    rt: &impl Print,
     label: &[u8],
     before: [u8; LENGTH],
     desk: u8,
     number: u16,
     receiver: u8,
     amount: u32,
-) -> [u8; LENGTH] {
+) -> io::Result<[u8; LENGTH]> {
     let mut book = before;
     let answer = give_tip(&mut book, desk, number, receiver, amount);
-    outcome(label, answer, &before, &book);
-    both_piles(&book);
-    book
+    outcome(rt, label, answer, &before, &book)?;
+    both_piles(rt, &book)?;
+    Ok(book)
 }
 
-fn compared(label: &[u8], one: [u8; LENGTH], other: [u8; LENGTH]) {
-    alike(label, &one, &other);
+fn compared(
+    rt: &impl Print,
+    label: &[u8],
+    one: [u8; LENGTH],
+    other: [u8; LENGTH],
+) -> io::Result<()> {
+    alike(rt, label, &one, &other)
 }
 
 // Accepted takes: a row of each pile, then again, when nothing is left to add, and back, whereupon both books are alike; a row of the second pile alone.
-fn accepted(h: [u8; LENGTH]) {
-    let own = draws(b"own: desk 1 draws 1 from 9", h, 1, 9, 1);
-    let copy = tips(b"copy: desk 0 tips 2 onto 5", h, 0, 5, 2);
-    let copy = gives(b"copy: desk 0 gives tip 2 of 9 to desk 1", copy, 0, 9, 1, 2);
-    let merged = merges(b"desk 1 takes: later rows in 5 and 9", own, copy, 1);
-    let again = merges(b"desk 1 takes them again", merged, copy, 1);
-    let back = merges(b"desk 0 takes the taken book", copy, again, 0);
-    compared(b"the two books", again, back);
-    let second = tips(b"copy: desk 0 tips 3 onto 9", h, 0, 9, 3);
-    merges(b"desk 1 takes: a later row in 9 alone", h, second, 1);
+fn accepted(rt: &impl Print, h: [u8; LENGTH]) -> io::Result<()> {
+    let own = draws(rt, b"own: desk 1 draws 1 from 9", h, 1, 9, 1)?;
+    let copy = tips(rt, b"copy: desk 0 tips 2 onto 5", h, 0, 5, 2)?;
+    let copy = gives(
+        rt,
+        b"copy: desk 0 gives tip 2 of 9 to desk 1",
+        copy,
+        0,
+        9,
+        1,
+        2,
+    )?;
+    let merged = merges(rt, b"desk 1 takes: later rows in 5 and 9", own, copy, 1)?;
+    let again = merges(rt, b"desk 1 takes them again", merged, copy, 1)?;
+    let back = merges(rt, b"desk 0 takes the taken book", copy, again, 0)?;
+    compared(rt, b"the two books", again, back)?;
+    let second = tips(rt, b"copy: desk 0 tips 3 onto 9", h, 0, 9, 3)?;
+    merges(rt, b"desk 1 takes: a later row in 9 alone", h, second, 1)?;
+    Ok(())
 }
 
-pub(crate) fn run() {
+pub(crate) fn run(rt: &impl Print) -> io::Result<()> {
     let h = h();
-    own_wrong(h);
-    into_first(b"take into 3 bytes", h, 3);
-    into_first(b"take into 159 bytes", h, 159);
-    copy_wrong(h);
-    others(h);
-    by_pile(h);
-    by_desk(h);
-    last_pile(h);
-    accepted(h);
+    own_wrong(rt, h)?;
+    into_first(rt, b"take into 3 bytes", h, 3)?;
+    into_first(rt, b"take into 159 bytes", h, 159)?;
+    copy_wrong(rt, h)?;
+    others(rt, h)?;
+    by_pile(rt, h)?;
+    by_desk(rt, h)?;
+    last_pile(rt, h)?;
+    accepted(rt, h)
 }

@@ -4,6 +4,7 @@ use crate::contents::{filled, filled_short};
 use lent::Entry;
 use opening::open;
 use samples::{decimal, longest_list, text};
+use std::io;
 
 const LENGTH: usize = 20932;
 
@@ -12,13 +13,13 @@ const NUMBER: u16 = 65535;
 
 const POSITION: u32 = 4294967295;
 
-fn opened() -> [u8; LENGTH] {
+fn opened(rt: &impl Print) -> io::Result<[u8; LENGTH]> {
     let numbers = longest_list();
     let mut book = [0u8; LENGTH];
-    text(b"open the longest book: ");
-    decimal(open(8, 32, &numbers, &mut book) as u64);
-    text(b"\n");
-    book
+    text(rt, b"open the longest book: ")?;
+    decimal(rt, open(8, 32, &numbers, &mut book) as u64)?;
+    text(rt, b"\n")?;
+    Ok(book)
 }
 
 fn blank() -> Entry {
@@ -28,48 +29,48 @@ fn blank() -> Entry {
     }
 }
 
-fn head(label: &[u8], answer: u8) {
-    text(label);
-    text(b": ");
-    decimal(answer as u64);
+fn head(rt: &impl Print, label: &[u8], answer: u8) -> io::Result<()> {
+    text(rt, label)?;
+    text(rt, b": ")?;
+    decimal(rt, answer as u64)
 }
 
-fn entry(at: u64, e: Entry) {
-    text(b", ");
-    decimal(at);
-    text(b": ");
-    decimal(e.number as u64);
-    text(b" at ");
-    decimal(e.position as u64);
+fn entry(rt: &impl Print, at: u64, e: Entry) -> io::Result<()> {
+    text(rt, b", ")?;
+    decimal(rt, at)?;
+    text(rt, b": ")?;
+    decimal(rt, e.number as u64)?;
+    text(rt, b" at ")?;
+    decimal(rt, e.position as u64)
 }
 
-fn of_34(label: &[u8], book: &[u8]) {
+fn of_34(rt: &impl Print, label: &[u8], book: &[u8]) -> io::Result<()> {
     let r = filled(book, [blank(); 34]);
     let entries = r.entries;
-    head(label, r.answer);
-    entry(0, entries[0]);
-    entry(1, entries[1]);
-    entry(31, entries[31]);
-    entry(32, entries[32]);
-    entry(33, entries[33]);
-    text(b"\n");
+    head(rt, label, r.answer)?;
+    entry(rt, 0, entries[0])?;
+    entry(rt, 1, entries[1])?;
+    entry(rt, 31, entries[31])?;
+    entry(rt, 32, entries[32])?;
+    entry(rt, 33, entries[33])?;
+    text(rt, b"\n")
 }
 
-fn of_31(label: &[u8], book: &[u8]) {
+fn of_31(rt: &impl Print, label: &[u8], book: &[u8]) -> io::Result<()> {
     let r = filled_short(book, [blank(); 31]);
     let entries = r.entries;
-    head(label, r.answer);
-    entry(0, entries[0]);
-    entry(1, entries[1]);
-    entry(30, entries[30]);
-    text(b"\n");
+    head(rt, label, r.answer)?;
+    entry(rt, 0, entries[0])?;
+    entry(rt, 1, entries[1])?;
+    entry(rt, 30, entries[30])?;
+    text(rt, b"\n")
 }
 
-pub(crate) fn run() {
-    let mut book = opened();
-    of_34(b"contents in 34 entries", &book);
-    of_31(b"contents in 31 entries", &book);
+pub(crate) fn run(rt: &impl Print) -> io::Result<()> {
+    let mut book = opened(rt)?;
+    of_34(rt, b"contents in 34 entries", &book)?;
+    of_31(rt, b"contents in 31 entries", &book)?;
     book[0] = 2;
-    of_34(b"a wrong version in 34 entries", &book);
-    of_31(b"a wrong version in 31 entries", &book);
+    of_34(rt, b"a wrong version in 34 entries", &book)?;
+    of_31(rt, b"a wrong version in 31 entries", &book)
 }

@@ -7,7 +7,9 @@ mod contents;
 mod lists;
 mod worked;
 
-fn main() {
-    worked::run();
-    lists::run();
+use std::io;
+
+fn main(rt: HostRuntime) -> io::Result<()> {
+    worked::run(&rt)?;
+    lists::run(&rt)
 }

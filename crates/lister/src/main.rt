@@ -5,7 +5,7 @@
 
 mod lines;
 
-ghost use Rattle.std.specs.Prelude.{◌≤◌};
+ghost use Rattle.std.specs.Prelude.{◌≤◌, IfOk, length};
 ghost use Rattle.rules.specs.Layout.{desk_limit};
 
 use book::check;
@@ -13,14 +13,15 @@ use bounds::{Bounded, bounds_in};
 use layout::contents::{pile_number, position};
 use layout::head::head_of;
 use layout::lengths::LONGEST_BOOK;
-use libc::STDIN_FILENO;
 use lines::{book_line, desk_line, pile_line, refused_line};
+use std::io;
+use std::io::Read;
 
 // One byte more than the longest book has: a longer input is refused by its length.
 const BUFFER: usize = LONGEST_BOOK + 1;
 
 // The lines of n desks.
-fn list_desks(n: u8, found: Bounded)
+fn list_desks(rt: &impl Print, n: u8, found: Bounded) -> io::Result<()>
     requires { n ≤ desk_limit }
 {
     let held = found.held;
@@ -31,41 +32,57 @@ fn list_desks(n: u8, found: Bounded)
     let mut i: u8 = 0;
     while i < n {
         let desk = i as usize;
-        desk_line(desk, draw[desk], tip[desk], least[desk], most[desk]);
+        desk_line(rt, desk, draw[desk], tip[desk], least[desk], most[desk])?;
         i += 1;
     }
+    Ok(())
 }
 
 // The lines of pile k, of a book of n desks: its account is made once, where its body stands, for the tonnage, all rights and all bounds.
-fn list_pile(book: &[u8], n: u8, k: u8)
+fn list_pile(rt: &impl Print, book: &[u8], n: u8, k: u8) -> io::Result<()>
     requires { n ≤ desk_limit }
 {
     let found = bounds_in(book, position(book, k) as usize, n);
     let held = found.held;
-    pile_line(pile_number(book, k), held.floor, held.top, held.tonnage);
-    list_desks(n, found);
+    pile_line(rt, pile_number(book, k), held.floor, held.top, held.tonnage)?;
+    list_desks(rt, n, found)
 }
 
 // The whole listing. The book is checked once, here.
-fn list(book: &[u8]) {
+fn list(rt: &impl Print, book: &[u8]) -> io::Result<()> {
     let answer = check(book);
     if answer != 0 {
-        refused_line(answer);
-        return;
+        return refused_line(rt, answer);
     }
     let head = head_of(book);
     let n = head.desks;
     let p = head.piles;
-    book_line(n as usize, p as usize);
+    book_line(rt, n as usize, p as usize)?;
     let mut k: u8 = 0;
     while k < p {
-        list_pile(book, n, k);
+        list_pile(rt, book, n, k)?;
         k += 1;
     }
+    Ok(())
 }
 
-fn main() {
+// Reads until the buffer is full or the input ends, and returns how many bytes it put at the start of the buffer.
+fn read_full(input: &mut impl Read, buffer: &mut [u8]) -> io::Result<usize>
+    ensures { IfOk result (λ n. n ≤ length buffer.new) }
+{
+    let mut done = 0;
+    while done < buffer.len() {
+        let count = input.read(&mut buffer[done..])?;
+        if count == 0 {
+            return Ok(done);
+        }
+        done += count;
+    }
+    Ok(done)
+}
+
+fn main(rt: HostRuntime) -> io::Result<()> {
     let mut buffer = [0u8; BUFFER];
-    let length = io::read_full(STDIN_FILENO, &mut buffer);
-    list(&buffer[..length]);
+    let length = read_full(&mut rt.reader(), &mut buffer)?;
+    list(&rt, &buffer[..length])
 }

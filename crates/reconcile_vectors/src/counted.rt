@@ -1,19 +1,21 @@
 // Lists with nothing wrong in them: empty, of one ticket, and of three.
 use crate::print::{line, load, pair, parts, put, three};
+use std::io;
 use ticket::Ticket;
 
 // Ticket 5 at the bridge, against a list of one.
-fn five(label: &[u8], ticket: Ticket) {
+fn five(rt: &impl Print, label: &[u8], ticket: Ticket) -> io::Result<()> {
     let mut bridge = [0u8; 11];
     put(&mut bridge, 0, load(5, 30));
     let mut desk = [0u8; 11];
     put(&mut desk, 0, ticket);
-    line(label, &bridge, &desk);
+    line(rt, label, &bridge, &desk)
 }
 
 // Ticket 5 again, with another pile, kind and desk.
-fn five_with(label: &[u8], pile: u32, kind: u8, desk: u8) {
+fn five_with(rt: &impl Print, label: &[u8], pile: u32, kind: u8, desk: u8) -> io::Result<()> {
     five(
+        rt,
         label,
         Ticket {
             number: 5,
@@ -22,21 +24,21 @@ fn five_with(label: &[u8], pile: u32, kind: u8, desk: u8) {
             kind,
             desk,
         },
-    );
+    )
 }
 
-fn of_none_and_one() {
+fn of_none_and_one(rt: &impl Print) -> io::Result<()> {
     let list = three(2, 4, 6);
-    parts(b"two empty lists", &list, 0, 0);
-    parts(b"2 and none", &list, 11, 0);
-    parts(b"none and 2", &list, 0, 11);
+    parts(rt, b"two empty lists", &list, 0, 0)?;
+    parts(rt, b"2 and none", &list, 11, 0)?;
+    parts(rt, b"none and 2", &list, 0, 11)
 }
 
-fn of_three() {
+fn of_three(rt: &impl Print) -> io::Result<()> {
     let list = three(2, 4, 6);
-    parts(b"2 4 6 and 2 4 6", &list, 33, 33);
-    parts(b"2 4 6 and 2 4", &list, 33, 22);
-    parts(b"2 4 and 2 4 6", &list, 22, 33);
+    parts(rt, b"2 4 6 and 2 4 6", &list, 33, 33)?;
+    parts(rt, b"2 4 6 and 2 4", &list, 33, 22)?;
+    parts(rt, b"2 4 and 2 4 6", &list, 22, 33)
 }
 
 // 2 4 7, of which desk 3 has tipped 4.
@@ -46,31 +48,33 @@ fn other() -> [u8; 33] {
     list
 }
 
-pub(crate) fn run() {
-    of_none_and_one();
-    five(b"5 and 5", load(5, 30));
-    five(b"5 and 4", load(4, 30));
-    five(b"5 and 6", load(6, 30));
-    five(b"5 and 5 of 31 tonnes", load(5, 31));
-    five_with(b"5 and 5 on pile 8", 8, 1, 0);
-    five_with(b"5 and 5 drawn", 7, 2, 0);
-    five_with(b"5 and 5 by desk 1", 7, 1, 1);
-    of_three();
-    pair(b"2 4 6 and 1 3 5", three(2, 4, 6), three(1, 3, 5));
-    pair(b"2 4 6 and 3 5 7", three(2, 4, 6), three(3, 5, 7));
-    pair(b"2 4 6 and 4 6 8", three(2, 4, 6), three(4, 6, 8));
-    pair(b"2 4 6 and 7 8 9", three(2, 4, 6), three(7, 8, 9));
-    pair(b"2 4 6 and 1 4 9", three(2, 4, 6), three(1, 4, 9));
-    pair(b"2 4 6 and 2 4 by desk 3, 7", three(2, 4, 6), other());
-    pair(b"2 4 by desk 3, 7 and 2 4 6", other(), three(2, 4, 6));
+pub(crate) fn run(rt: &impl Print) -> io::Result<()> {
+    of_none_and_one(rt)?;
+    five(rt, b"5 and 5", load(5, 30))?;
+    five(rt, b"5 and 4", load(4, 30))?;
+    five(rt, b"5 and 6", load(6, 30))?;
+    five(rt, b"5 and 5 of 31 tonnes", load(5, 31))?;
+    five_with(rt, b"5 and 5 on pile 8", 8, 1, 0)?;
+    five_with(rt, b"5 and 5 drawn", 7, 2, 0)?;
+    five_with(rt, b"5 and 5 by desk 1", 7, 1, 1)?;
+    of_three(rt)?;
+    pair(rt, b"2 4 6 and 1 3 5", three(2, 4, 6), three(1, 3, 5))?;
+    pair(rt, b"2 4 6 and 3 5 7", three(2, 4, 6), three(3, 5, 7))?;
+    pair(rt, b"2 4 6 and 4 6 8", three(2, 4, 6), three(4, 6, 8))?;
+    pair(rt, b"2 4 6 and 7 8 9", three(2, 4, 6), three(7, 8, 9))?;
+    pair(rt, b"2 4 6 and 1 4 9", three(2, 4, 6), three(1, 4, 9))?;
+    pair(rt, b"2 4 6 and 2 4 by desk 3, 7", three(2, 4, 6), other())?;
+    pair(rt, b"2 4 by desk 3, 7 and 2 4 6", other(), three(2, 4, 6))?;
     pair(
+        rt,
         b"0 1 99999999 and 0 5 99999998",
         three(0, 1, 99_999_999),
         three(0, 5, 99_999_998),
-    );
+    )?;
     pair(
+        rt,
         b"0 1 99999998 and 0 5 99999999",
         three(0, 1, 99_999_998),
         three(0, 5, 99_999_999),
-    );
+    )
 }

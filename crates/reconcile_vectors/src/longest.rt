@@ -2,6 +2,7 @@
 ghost use Rattle.std.specs.Prelude.{◌≤◌};
 
 use crate::print::{line, load, parts, put};
+use std::io;
 
 // Room for 4,097 tickets of 11 bytes; 4,096 of them.
 const ROOM: usize = 45_067;
@@ -28,32 +29,33 @@ fn fill(list: &mut [u8], step: u32, third: u32)
 }
 
 // Even numbers and multiples of 3, each against the other: they have those of 6 in common, and of every third of those the tickets differ.
-fn both(evens: &[u8], thirds: &[u8]) {
+fn both(rt: &impl Print, evens: &[u8], thirds: &[u8]) -> io::Result<()> {
     if FULL <= evens.len() {
         if FULL <= thirds.len() {
             let a = &evens[0..FULL];
             let b = &thirds[0..FULL];
-            line(b"4096 even numbers and 4096 multiples of 3", a, b);
-            line(b"4096 multiples of 3 and 4096 even numbers", b, a);
+            line(rt, b"4096 even numbers and 4096 multiples of 3", a, b)?;
+            line(rt, b"4096 multiples of 3 and 4096 even numbers", b, a)?;
         }
     }
+    Ok(())
 }
 
-fn alone(list: &[u8]) {
-    parts(b"4096 and itself", list, FULL, FULL);
-    parts(b"4096 and none", list, FULL, 0);
-    parts(b"none and 4096", list, 0, FULL);
-    parts(b"4096 and the first of them", list, FULL, 11);
-    parts(b"4097 and none", list, ROOM, 0);
-    parts(b"none and 4097", list, 0, ROOM);
-    parts(b"4097 and itself", list, ROOM, ROOM);
+fn alone(rt: &impl Print, list: &[u8]) -> io::Result<()> {
+    parts(rt, b"4096 and itself", list, FULL, FULL)?;
+    parts(rt, b"4096 and none", list, FULL, 0)?;
+    parts(rt, b"none and 4096", list, 0, FULL)?;
+    parts(rt, b"4096 and the first of them", list, FULL, 11)?;
+    parts(rt, b"4097 and none", list, ROOM, 0)?;
+    parts(rt, b"none and 4097", list, 0, ROOM)?;
+    parts(rt, b"4097 and itself", list, ROOM, ROOM)
 }
 
-pub(crate) fn run() {
+pub(crate) fn run(rt: &impl Print) -> io::Result<()> {
     let mut evens = [0u8; ROOM];
     fill(&mut evens, 2, 30);
     let mut thirds = [0u8; ROOM];
     fill(&mut thirds, 3, 31);
-    both(&evens, &thirds);
-    alone(&thirds);
+    both(rt, &evens, &thirds)?;
+    alone(rt, &thirds)
 }

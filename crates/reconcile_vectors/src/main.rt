@@ -6,8 +6,10 @@ mod longest;
 mod print;
 mod refused;
 
-fn main() {
-    counted::run();
-    longest::run();
-    refused::run();
+use std::io;
+
+fn main(rt: HostRuntime) -> io::Result<()> {
+    counted::run(&rt)?;
+    longest::run(&rt)?;
+    refused::run(&rt)
 }

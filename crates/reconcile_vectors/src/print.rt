@@ -1,38 +1,51 @@
 // A line for two lists, and the tickets that lists are made of.
 use reconcile::reconcile;
 use samples::{decimal, text};
+use std::io;
 use ticket::Ticket;
 
-fn number(x: u32) {
-    text(b" ");
-    decimal(x as u64);
+fn number(rt: &impl Print, x: u32) -> io::Result<()> {
+    text(rt, b" ")?;
+    decimal(rt, x as u64)
 }
 
 // What comparing two lists hands back.
-pub(crate) fn line(label: &[u8], bridge: &[u8], desk: &[u8]) {
+pub(crate) fn line(rt: &impl Print, label: &[u8], bridge: &[u8], desk: &[u8]) -> io::Result<()> {
     let counts = reconcile(bridge, desk);
-    text(label);
-    text(b":");
-    number(counts.answer as u32);
-    number(counts.alike);
-    number(counts.differing);
-    number(counts.only_bridge);
-    number(counts.only_desk);
-    text(b"\n");
+    text(rt, label)?;
+    text(rt, b":")?;
+    number(rt, counts.answer as u32)?;
+    number(rt, counts.alike)?;
+    number(rt, counts.differing)?;
+    number(rt, counts.only_bridge)?;
+    number(rt, counts.only_desk)?;
+    text(rt, b"\n")
 }
 
 // Two lists of three tickets.
-pub(crate) fn pair(label: &[u8], bridge: [u8; 33], desk: [u8; 33]) {
-    line(label, &bridge, &desk);
+pub(crate) fn pair(
+    rt: &impl Print,
+    label: &[u8],
+    bridge: [u8; 33],
+    desk: [u8; 33],
+) -> io::Result<()> {
+    line(rt, label, &bridge, &desk)
 }
 
 // The first so many bytes of one list, against the first so many of the same.
-pub(crate) fn parts(label: &[u8], list: &[u8], bridge: usize, desk: usize) {
+pub(crate) fn parts(
+    rt: &impl Print,
+    label: &[u8],
+    list: &[u8],
+    bridge: usize,
+    desk: usize,
+) -> io::Result<()> {
     if bridge <= list.len() {
         if desk <= list.len() {
-            line(label, &list[0..bridge], &list[0..desk]);
+            line(rt, label, &list[0..bridge], &list[0..desk])?;
         }
     }
+    Ok(())
 }
 
 // A load that desk 0 tips onto pile 7.

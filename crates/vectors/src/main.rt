@@ -11,49 +11,53 @@ ghost use Rattle.std.specs.Prelude.{◌<◌};
 
 use pile::{Pile, TALLIES};
 use samples::line;
+use std::io;
 
 // G: F after its seven acts, with cases b and d refused first.
-fn worked() -> Pile {
+fn worked(rt: &impl Print) -> io::Result<Pile> {
     let shares = [0, 0, 0, 0, 0, 0, 0, 0, 40, 30, 30, 0, 0, 0, 0, 0];
-    let f = line(b"F", Pile::fresh(3, 10, 110, shares));
-    let f = line(b"desk 0 draws 1", f.draw(0, 1));
-    let f = line(b"desk 0 tips 41", f.tip(0, 41));
-    let p = line(b"desk 0 tips 30", f.tip(0, 30));
-    let p = line(b"desk 1 tips 1", p.tip(1, 1));
-    let p = line(b"desk 0 gives draw 10 to desk 1", p.give_draw(0, 1, 10));
-    let p = line(b"desk 0 gives draw 10 to desk 2", p.give_draw(0, 2, 10));
-    let p = line(b"desk 0 draws 5", p.draw(0, 5));
-    let p = line(b"desk 1 draws 4", p.draw(1, 4));
-    line(b"desk 2 draws 2", p.draw(2, 2))
+    let f = line(rt, b"F", Pile::fresh(3, 10, 110, shares))?;
+    let f = line(rt, b"desk 0 draws 1", f.draw(0, 1))?;
+    let f = line(rt, b"desk 0 tips 41", f.tip(0, 41))?;
+    let p = line(rt, b"desk 0 tips 30", f.tip(0, 30))?;
+    let p = line(rt, b"desk 1 tips 1", p.tip(1, 1))?;
+    let p = line(rt, b"desk 0 gives draw 10 to desk 1", p.give_draw(0, 1, 10))?;
+    let p = line(rt, b"desk 0 gives draw 10 to desk 2", p.give_draw(0, 2, 10))?;
+    let p = line(rt, b"desk 0 draws 5", p.draw(0, 5))?;
+    let p = line(rt, b"desk 1 draws 4", p.draw(1, 4))?;
+    line(rt, b"desk 2 draws 2", p.draw(2, 2))
 }
 
 // What the table refuses from G.
-fn refused(g: Pile) {
-    let g = line(b"desk 0 gives draw 6 to desk 1", g.give_draw(0, 1, 6));
-    let g = line(b"desk 0 gives draw 1 to itself", g.give_draw(0, 0, 1));
-    let g = line(b"desk 0 gives tip 1 to itself", g.give_tip(0, 0, 1));
-    let g = line(b"desk 0 gives tip 1 to desk 3", g.give_tip(0, 3, 1));
-    let g = line(b"desk 3 tips 1", g.tip(3, 1));
-    let g = line(b"desk 0 tips 0", g.tip(0, 0));
-    let g = line(b"desk 0 tips 1001", g.tip(0, 1001));
-    let g = line(b"desk 0 tips 1000", g.tip(0, 1000));
-    line(b"desk 0 gives draw 5 to desk 1", g.give_draw(0, 1, 5));
+fn refused(rt: &impl Print, g: Pile) -> io::Result<()> {
+    let g = line(rt, b"desk 0 gives draw 6 to desk 1", g.give_draw(0, 1, 6))?;
+    let g = line(rt, b"desk 0 gives draw 1 to itself", g.give_draw(0, 0, 1))?;
+    let g = line(rt, b"desk 0 gives tip 1 to itself", g.give_tip(0, 0, 1))?;
+    let g = line(rt, b"desk 0 gives tip 1 to desk 3", g.give_tip(0, 3, 1))?;
+    let g = line(rt, b"desk 3 tips 1", g.tip(3, 1))?;
+    let g = line(rt, b"desk 0 tips 0", g.tip(0, 0))?;
+    let g = line(rt, b"desk 0 tips 1001", g.tip(0, 1001))?;
+    let g = line(rt, b"desk 0 tips 1000", g.tip(0, 1000))?;
+    line(rt, b"desk 0 gives draw 5 to desk 1", g.give_draw(0, 1, 5))?;
+    Ok(())
 }
 
 // Fresh records at their limits and past them, and a record of the largest numbers.
-fn unlawful() {
+fn unlawful(rt: &impl Print) -> io::Result<()> {
     let zero = [0u32; 16];
-    line(b"no desks", Pile::fresh(0, 0, 0, zero));
-    line(b"nine desks", Pile::fresh(9, 0, 0, zero));
-    line(b"floor above top", Pile::fresh(3, 2, 1, zero));
+    line(rt, b"no desks", Pile::fresh(0, 0, 0, zero))?;
+    line(rt, b"nine desks", Pile::fresh(9, 0, 0, zero))?;
+    line(rt, b"floor above top", Pile::fresh(3, 2, 1, zero))?;
     line(
+        rt,
         b"top above its limit",
         Pile::fresh(3, 10000001, 10000001, zero),
-    );
+    )?;
     line(
+        rt,
         b"floor and top at the limit",
         Pile::fresh(3, 10000000, 10000000, zero),
-    );
+    )?;
     let most = Pile {
         n: 8,
         floor: 4294967295,
@@ -61,7 +65,8 @@ fn unlawful() {
         shares: [4294967295; 16],
         tallies: [4294967295; TALLIES],
     };
-    line(b"the largest numbers", most.tip(0, 1));
+    line(rt, b"the largest numbers", most.tip(0, 1))?;
+    Ok(())
 }
 
 // A record of two desks, with one number of it set: desk 0 has 10 draw rights and desk 1 has 10 tip rights.
@@ -80,28 +85,30 @@ pub(crate) fn with_tally(at: usize, tally: u32) -> Pile
 }
 
 // What makes a record's tallies unlawful, and an act that finds its tally full.
-fn tallied() {
-    line(b"no tallies", with_tally(0, 0).give_draw(0, 1, 10));
+fn tallied(rt: &impl Print) -> io::Result<()> {
+    line(rt, b"no tallies", with_tally(0, 0).give_draw(0, 1, 10))?;
     line(
+        rt,
         b"tipped above its limit",
         with_tally(0, 1000000001).tip(0, 1),
-    );
-    line(b"a give to oneself", with_tally(2, 1).tip(0, 1));
-    line(b"a give to a desk past n", with_tally(4, 1).tip(0, 1));
-    line(b"a desk past n tipped", with_tally(36, 1).tip(0, 1));
-    line(b"drawn beyond rights", with_tally(19, 1).tip(0, 1));
+    )?;
+    line(rt, b"a give to oneself", with_tally(2, 1).tip(0, 1))?;
+    line(rt, b"a give to a desk past n", with_tally(4, 1).tip(0, 1))?;
+    line(rt, b"a desk past n tipped", with_tally(36, 1).tip(0, 1))?;
+    line(rt, b"drawn beyond rights", with_tally(19, 1).tip(0, 1))?;
     let mut full = with_tally(0, 999999999);
     full.tallies[1] = 999999999;
-    let full = line(b"desk 0 draws up to the limit", full.draw(0, 1));
-    line(b"desk 0 draws past the limit", full.draw(0, 1));
+    let full = line(rt, b"desk 0 draws up to the limit", full.draw(0, 1))?;
+    line(rt, b"desk 0 draws past the limit", full.draw(0, 1))?;
+    Ok(())
 }
 
-fn main() {
-    let g = worked();
-    refused(g);
-    unlawful();
-    tallied();
-    file::run();
-    sure::run(g);
-    tickets::run();
+fn main(rt: HostRuntime) -> io::Result<()> {
+    let g = worked(&rt)?;
+    refused(&rt, g)?;
+    unlawful(&rt)?;
+    tallied(&rt)?;
+    file::run(&rt)?;
+    sure::run(&rt, g)?;
+    tickets::run(&rt)
 }
