@@ -19,7 +19,7 @@ use Rattle.take.proofs.InOrder.{rows_most}
 use Rattle.take.proofs.Marking.{blank}
 use Rattle.take.proofs.ByMarks.{rows_there, marks_counted, rows_taken}
 use Rattle.take.proofs.take.Goals as goal
-use Rattle.take.proofs.take.Goals.{After-count_marks-changed, After-front_length, After-head_of-head, After-row_length, After-rows_of-rows, Else-answer-ne0}
+use Rattle.take.proofs.take.Goals.{After-count_marks-changed, After-front_length, After-head_of-head, After-row_length, After-rows_of-rows, Else-answer-ne0, Then-answer-ne0}
 
 accepted : (c : Else-answer-ne0) → let a = c.args in take_answer a.desk a.own.now a.copy.now ≡ 0
 accepted c = sym c.take_answer-answer.ensures.answer ∙ c.if-answer-ne0.false
@@ -59,12 +59,16 @@ reported c =
 pub take_answer-answer-requires : goal.take_answer-answer-requires
 take_answer-answer-requires c = blank
 
-pub returns-then-answer-ne0 : goal.returns-then-answer-ne0
-unfolding after_take take_report
-returns-then-answer-ne0 c =
-    let answer = c.take_answer-answer.ensures.answer in
-    let refused : take_answer _ _ _ ≢ 0 = λ z. c.if-answer-ne0.true (answer ∙ z) in
-    record { answer = answer; changed = sym (when_refused _ _ _ refused); book = sym (when_refused _ _ _ refused) }
+refused : (c : Then-answer-ne0) → let a = c.args in take_answer a.desk a.own.now a.copy.now ≢ 0
+refused c z = c.if-answer-ne0.true (c.take_answer-answer.ensures.answer ∙ z)
+
+pub returns-then-answer-ne0-clause-changed : goal.returns-then-answer-ne0-clause-changed
+unfolding take_report
+returns-then-answer-ne0-clause-changed c = sym (when_refused _ _ _ (refused (goal.at.returns-then-answer-ne0-clause-changed c).Then-answer-ne0))
+
+pub returns-then-answer-ne0-clause-book : goal.returns-then-answer-ne0-clause-book
+unfolding after_take
+returns-then-answer-ne0-clause-book c = sym (when_refused _ _ _ (refused (goal.at.returns-then-answer-ne0-clause-book c).Then-answer-ne0))
 
 pub count_marks-changed-requires : goal.count_marks-changed-requires
 count_marks-changed-requires c =
@@ -73,31 +77,25 @@ count_marks-changed-requires c =
 
 pub take_rows-requires : goal.take_rows-requires
 take_rows-requires c =
-    let at = goal.at.take_rows-requires c in
-    (
+    let at = goal.at.take_rows-requires c in (
       rows_there _ _ _ (accepted at.Else-answer-ne0) (front_is at.After-front_length) (row_is at.After-row_length) (rows_are at.After-rows_of-rows),
       room at.After-rows_of-rows,
     )
 
-pub returns-then-changed-ne0 : goal.returns-then-changed-ne0
-returns-then-changed-ne0 c =
-    let at = goal.at.returns-then-changed-ne0 c in
-    let one = at.Else-answer-ne0 in
-    record {
-      answer = sym (accepted one);
-      changed = reported at.After-count_marks-changed;
-      book =
-          c.take_rows.ensures
-          ∙ rows_taken _ _ _ (accepted one) (marked one) (front_is at.After-front_length) (row_is at.After-row_length) (rows_are at.After-rows_of-rows);
-    }
+pub returns-then-changed-ne0-clause-changed : goal.returns-then-changed-ne0-clause-changed
+returns-then-changed-ne0-clause-changed c = reported (goal.at.returns-then-changed-ne0-clause-changed c).After-count_marks-changed
 
-pub returns-else-changed-ne0 : goal.returns-else-changed-ne0
-returns-else-changed-ne0 c =
-    let at = goal.at.returns-else-changed-ne0 c in
+pub returns-then-changed-ne0-clause-book : goal.returns-then-changed-ne0-clause-book
+returns-then-changed-ne0-clause-book c =
+    let at = goal.at.returns-then-changed-ne0-clause-book c in
     let one = at.Else-answer-ne0 in
-    let changed = reported at.After-count_marks-changed in
-    record {
-      answer = sym (accepted one);
-      changed = changed;
-      book = sym ((report_zero _ _ _ (accepted one)).0 (sym changed ∙ c.if-changed-ne0.false));
-    }
+    c.take_rows.ensures
+    ∙ rows_taken _ _ _ (accepted one) (marked one) (front_is at.After-front_length) (row_is at.After-row_length) (rows_are at.After-rows_of-rows)
+
+pub returns-else-changed-ne0-clause-changed : goal.returns-else-changed-ne0-clause-changed
+returns-else-changed-ne0-clause-changed c = reported (goal.at.returns-else-changed-ne0-clause-changed c).After-count_marks-changed
+
+pub returns-else-changed-ne0-clause-book : goal.returns-else-changed-ne0-clause-book
+returns-else-changed-ne0-clause-book c =
+    let at = goal.at.returns-else-changed-ne0-clause-book c in
+    sym ((report_zero _ _ _ (accepted at.Else-answer-ne0)).0 (sym (reported at.After-count_marks-changed) ∙ c.if-changed-ne0.false))

@@ -1,54 +1,27 @@
 -- `desks_answer` judges one desk's rows after the other and marks those that are later in the copy; it stops at the first that are refused.
-use Prim.Native.Nat.{ℕ, ◌+◌, ◌*◌}
+use Prim.Native.Nat.{ℕ, ◌+◌}
 use native.Mathlib.Omega.{arith}
-use mathlib.Core.Path.{◌≡◌, refl, sym, subst, subst⁻¹, ◌∙◌}
+use mathlib.Core.Path.{◌≡◌, refl, sym, subst⁻¹, ◌∙◌}
 use lib.ListN.{length, length-set}
-use Rattle.rules.proofs.Loops.PassedSoFar.{none_asked, next_passed, refused_first, all_passed}
-use Rattle.take.specs.Inner.{InBoth, RowsInBoth, Marked}
-use Rattle.take.proofs.Marking.{row_in_both, next_marked, next_unmarked}
+use Rattle.rules.proofs.Loops.PassedSoFar.{none_asked, next_passed, refused_first}
+use Rattle.take.specs.Inner.{Marked}
+use Rattle.take.proofs.Marking.{next_marked, next_unmarked}
 use Rattle.take.proofs.judge.desks_answer.Goals as goal
-use Rattle.take.proofs.judge.desks_answer.Goals.{After-row_length-row, In-loop-i, Joined-later, then-later, else-later}
-
--- the rows to be judged lie within their books, and so do those of this turn
-rows : (c : After-row_length-row) → let a = c.args in RowsInBoth a.front c.row_length-row.result (a.from + a.n) a.own.now a.copy.now
-rows c =
-    let a = c.args in
-    subst⁻¹ (λ (row : ℕ). RowsInBoth a.front row (a.from + a.n) a.own.now a.copy.now) c.row_length-row.ensures c.requires.rows
-
-within : (c : In-loop-i) → let a = c.args in
-    InBoth (a.front + (a.from + c.loop-i.i) * c.row_length-row.result) c.row_length-row.result a.own.now a.copy.now
-within c = row_in_both (rows (goal.at.In-loop-i c).After-row_length-row) (c.args.from + c.loop-i.i) (omega arith)
+use Rattle.take.proofs.judge.desks_answer.Goals.{Joined-later, then-later, else-later}
 
 pub loop-i-init : goal.loop-i-init
 loop-i-init c =
     let a = c.args in
-    let none : a.from + 0 ≡ a.from = omega arith in
-    (
+    let none : a.from + 0 ≡ a.from = omega arith in (
       none_asked,
       rw none (subst⁻¹ (λ (row : ℕ). Marked a.front row a.from a.own.now a.copy.now a.marks.now) c.row_length-row.ensures c.requires.before),
       refl,
     )
 
-pub overflow_add-place : goal.overflow_add-place
-overflow_add-place c = omega (arith, c.requires.rows.count_most)
-
-pub overflow_mul-place : goal.overflow_mul-place
-overflow_mul-place c = omega (arith, (within (goal.at.overflow_mul-place c).In-loop-i).in_own)
-
-pub overflow_add-front : goal.overflow_add-front
-overflow_add-front c = omega (arith, (within (goal.at.overflow_add-front c).In-loop-i).in_own)
-
-pub judge_row-judged-requires : goal.judge_row-judged-requires
-judge_row-judged-requires c = within (goal.at.judge_row-judged-requires c).In-loop-i
-
-pub returns-then-answer-ne0 : goal.returns-then-answer-ne0
-returns-then-answer-ne0 c =
-    record {
-      answer =
-          rw c.row_length-row.ensures at
-          (refused_first c.loop-i.invariant.0 c.loop-i-test.true c.judge_row-judged.ensures.answer c.if-answer-ne0.true);
-      marks = λ z. absurd (c.if-answer-ne0.true z);
-    }
+pub returns-then-answer-ne0-clause-answer : goal.returns-then-answer-ne0-clause-answer
+returns-then-answer-ne0-clause-answer c =
+    rw c.row_length-row.ensures at
+    (refused_first c.loop-i.invariant.0 c.loop-i-test.true c.judge_row-judged.ensures.answer c.if-answer-ne0.true)
 
 -- what a row's mark is: set where the copy's is later, and otherwise left unset
 marked : (c : Joined-later) → let a = c.args in
@@ -58,11 +31,11 @@ marked c =
     let inv = c.loop-i.invariant in
     let said = c.judge_row-judged.ensures.later in
     elim c.if-later.branch [
-      then-later w ↦ (
+      | then-later w ↦ (
         rw w.marks-is (next_marked inv.1 (omega (arith, c.requires.room, inv.2)) (sym w.if-later.true ∙ said)),
         rw (w.marks-is, length-set) inv.2,
       )
-    | else-later w ↦ (rw w.marks-is (next_unmarked inv.1 (sym said ∙ w.if-later.false)), rw w.marks-is inv.2)
+      | else-later w ↦ (rw w.marks-is (next_unmarked inv.1 (sym said ∙ w.if-later.false)), rw w.marks-is inv.2)
     ]
 
 pub loop-i-preserved : goal.loop-i-preserved
@@ -70,20 +43,8 @@ loop-i-preserved c =
     let from = c.args.from in
     let i = c.loop-i.i in
     let next : from + (i + 1) ≡ from + i + 1 = omega arith in
-    let mark = marked (goal.at.loop-i-preserved c).Joined-later in
-    (
+    let mark = marked (goal.at.loop-i-preserved c).Joined-later in (
       next_passed c.loop-i.invariant.0 c.loop-i-test.true c.judge_row-judged.ensures.answer c.if-answer-ne0.false,
       rw next mark.0,
       mark.1,
     )
-
-pub returns : goal.returns
-returns c =
-    let a = c.args in
-    let done : c.loop-i.i ≡ a.n = omega arith in
-    record {
-      answer = rw c.row_length-row.ensures at (all_passed c.loop-i.invariant.0 (omega arith));
-      marks = λ _.
-          subst (λ (row : ℕ). Marked a.front row (a.from + a.n) a.own.now a.copy.now c.loop-i.marks) c.row_length-row.ensures
-          (rw done at c.loop-i.invariant.1);
-    }

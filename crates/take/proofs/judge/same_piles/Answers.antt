@@ -4,7 +4,6 @@ use native.Mathlib.Nat.{zero-lt-suc, add-mul}
 use native.Mathlib.Omega.{arith}
 use mathlib.Core.Path.{◌≡◌, ap₂, sym, ◌∙◌}
 use lib.Dec.{eqb}
-use borrow.Author.Rules.{rules}
 use borrow.Author.Tests.{eq-eqb, ne_eqb}
 use Rattle.rules.specs.Loops.{◌and◌, every}
 use Rattle.rules.specs.Numbers.{part}
@@ -80,18 +79,8 @@ told c = rw c.loop-k.invariant.0 at c.alike_at.ensures
 pub loop-k-init : goal.loop-k-init
 loop-k-init c = (omega arith, none_tested)
 
-pub overflow_add-entry : goal.overflow_add-entry
-overflow_add-entry c = search (rules, entry_in (goal.at.overflow_add-entry c).After-entry_at-entry)
-
 pub slice_bounds-entry_number-end : goal.slice_bounds-entry_number-end
 slice_bounds-entry_number-end c = let there = entry_in (goal.at.slice_bounds-entry_number-end c).After-entry_at-entry in omega arith
-
-pub overflow_add-entry-in-loop-k : goal.overflow_add-entry-in-loop-k
-overflow_add-entry-in-loop-k c = search (rules, entry_in (goal.at.overflow_add-entry-in-loop-k c).After-entry_at-entry)
-
-pub slice_bounds-entry_number-end-in-loop-k : goal.slice_bounds-entry_number-end-in-loop-k
-slice_bounds-entry_number-end-in-loop-k c =
-    let there = entry_in (goal.at.slice_bounds-entry_number-end-in-loop-k c).After-entry_at-entry in omega arith
 
 pub returns-then-entry_number : goal.returns-then-entry_number
 returns-then-entry_number c =
@@ -122,8 +111,7 @@ overflow_add-at c =
 pub loop-k-preserved : goal.loop-k-preserved
 loop-k-preserved c =
     let at = goal.at.loop-k-preserved c in
-    let read = at.After-entry_number-in-loop-k in
-    (
+    let read = at.After-entry_number-in-loop-k in (
       omega (arith, c.loop-k.invariant.0, add-mul c.loop-k.k 1 c.body_length-size.result),
       next_held c.loop-k.invariant.1 c.loop-k-test.true
           (and_both (eq-eqb _ _ (sym (own_number read) ∙ c.if-entry_number.false ∙ copy_number read))

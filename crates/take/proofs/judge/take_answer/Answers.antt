@@ -84,23 +84,15 @@ test c =
     let at = goal.at.After-same_piles c in
     told c ∙ same_piles_test _ _ (mine at.Else-theirs-ne0) (theirs at.Else-theirs-ne0) (same_n at.Else-head-other) (same_p at.Else-head-other-2)
 
-pub returns-then-mine-ne0 : goal.returns-then-mine-ne0
-returns-then-mine-ne0 c =
-    record {
-      answer = line_own _ _ _ _ c.check-mine.ensures c.if-mine-ne0.true;
-      marks = λ z. absurd (c.if-mine-ne0.true z);
-    }
+pub returns-then-mine-ne0-clause-answer : goal.returns-then-mine-ne0-clause-answer
+returns-then-mine-ne0-clause-answer c = line_own _ _ _ _ c.check-mine.ensures c.if-mine-ne0.true
 
 pub overflow_add-result : goal.overflow_add-result
 overflow_add-result c = omega (arith, c.check-theirs.ensures, book_answer_most c.args.copy.now)
 
-pub returns-then-theirs-ne0 : goal.returns-then-theirs-ne0
-returns-then-theirs-ne0 c =
-    record {
-      answer =
-          line_copy _ _ _ (own_read (goal.at.returns-then-theirs-ne0 c).Else-mine-ne0) _ c.check-theirs.ensures c.if-theirs-ne0.true;
-      marks = λ z. absurd (omega arith);
-    }
+pub returns-then-theirs-ne0-clause-answer : goal.returns-then-theirs-ne0-clause-answer
+returns-then-theirs-ne0-clause-answer c =
+    line_copy _ _ _ (own_read (goal.at.returns-then-theirs-ne0-clause-answer c).Else-mine-ne0) _ c.check-theirs.ensures c.if-theirs-ne0.true
 
 pub returns-then-head-desk-clause-answer : goal.returns-then-head-desk-clause-answer
 returns-then-head-desk-clause-answer c =

@@ -1,7 +1,7 @@
 -- `count_marks` looks at one mark after the other.
 use Prim.Native.Nat.{ℕ}
 use native.Mathlib.Omega.{arith}
-use mathlib.Core.Path.{◌≡◌, refl, ap, ◌∙◌}
+use mathlib.Core.Path.{refl, ap}
 use mathlib.Core.Bool.{Bool}
 use Rattle.rules.specs.Loops.{sum, one_if, count}
 use Rattle.rules.proofs.Loops.Counts.{count_next, count_most}
@@ -23,12 +23,7 @@ loop-k-preserved c =
     let one : Bool → ℕ = λ b. one_if b in (
       omega arith,
       elim c.if-marks-k.branch [
-        then-marks-k w ↦ omega (arith, w.marked-is, c.loop-k.invariant.1, more, ap one w.if-marks-k.true)
-      | else-marks-k w ↦ omega (arith, w.marked-is, c.loop-k.invariant.1, more, ap one w.if-marks-k.false)
+        | then-marks-k w ↦ omega (arith, w.marked-is, c.loop-k.invariant.1, more, ap one w.if-marks-k.true)
+        | else-marks-k w ↦ omega (arith, w.marked-is, c.loop-k.invariant.1, more, ap one w.if-marks-k.false)
       ],
     )
-
-pub returns : goal.returns
-returns c =
-    let done : c.loop-k.k ≡ c.args.rows = omega arith in
-    c.loop-k.invariant.1 ∙ ap (λ (k : ℕ). count k (mark c.args.marks.now)) done

@@ -7,13 +7,12 @@ use mathlib.Core.Bool.{Bool, false}
 use mathlib.Core.List.{List}
 use lib.ListN.{length, get_or}
 use lib.Seq.{sets}
-use borrow.Author.Rules.{rules}
 use Rattle.rules.specs.Loops.{flat}
 use Rattle.rules.specs.Numbers.{part}
 use Rattle.rules.proofs.Loops.Pieces.{length_flat}
 use Rattle.rules.proofs.Loops.Parts.{sets_part}
 use Rattle.rules.proofs.Loops.Sets.{part_behind_sets}
-use Rattle.rules.proofs.Loops.Writing.{none_written, next_written, all_written}
+use Rattle.rules.proofs.Loops.Writing.{none_written, next_written}
 use Rattle.take.specs.Inner.{InBoth}
 use Rattle.take.proofs.Marking.{row_in_both}
 use Rattle.take.proofs.Moved.{moved, moved_long}
@@ -49,12 +48,6 @@ untouched c =
 pub loop-k-init : goal.loop-k-init
 loop-k-init c = (omega arith, none_written)
 
-pub copy_bytes-requires : goal.copy_bytes-requires
-copy_bytes-requires c = search (rules, in_both (goal.at.copy_bytes-requires c).In-loop-k)
-
-pub overflow_add-from : goal.overflow_add-from
-overflow_add-from c = omega (arith, (in_both (goal.at.overflow_add-from c).In-loop-k).in_own)
-
 -- the book with the row of this turn written: the copy's, or the one that is there
 written : (c : Joined-marks-k) → c.if-marks-k.own ≡ sets c.loop-k.own c.loop-k.from (pieces (goal.at.Joined-marks-k c).Start c.loop-k.k)
 written c =
@@ -65,12 +58,12 @@ written c =
     let put : ℕ → Bool → List ℕ = λ to marked. sets c.loop-k.own from (moved a.own.now a.copy.now to a.row marked) in
     let here : c.if-marks-k.own ≡ put from mark =
     elim c.if-marks-k.branch [
-      then-marks-k w ↦ w.own-is ∙ w.copy_bytes.ensures ∙ ap (put from) (sym w.if-marks-k.true)
-    | else-marks-k w ↦
-        w.own-is
-        ∙ sym (sets_part from a.row c.loop-k.own (in_both turn).in_own)
-        ∙ ap (sets c.loop-k.own from) (untouched turn)
-        ∙ ap (put from) (sym w.if-marks-k.false)
+      | then-marks-k w ↦ w.own-is ∙ w.copy_bytes.ensures ∙ ap (put from) (sym w.if-marks-k.true)
+      | else-marks-k w ↦
+          w.own-is
+          ∙ sym (sets_part from a.row c.loop-k.own (in_both turn).in_own)
+          ∙ ap (sets c.loop-k.own from) (untouched turn)
+          ∙ ap (put from) (sym w.if-marks-k.false)
     ] in
     here ∙ ap (λ (to : ℕ). put to mark) c.loop-k.invariant.0
 
@@ -78,11 +71,7 @@ pub loop-k-preserved : goal.loop-k-preserved
 loop-k-preserved c =
     let at = goal.at.loop-k-preserved c in
     let inv = c.loop-k.invariant in
-    let row = c.args.row in
-    (
+    let row = c.args.row in (
       omega (arith, inv.0, add-mul c.loop-k.k 1 row),
       next_written row (row_long at.Start) inv.1 c.loop-k-test.true inv.0 (written at.Joined-marks-k),
     )
-
-pub returns : goal.returns
-returns c = all_written c.loop-k.invariant.1 (omega arith)
