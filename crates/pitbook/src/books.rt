@@ -7,8 +7,7 @@ use book::check;
 use opening::open;
 
 // Opens a book in a lent buffer, from a list of each pile's number, floor, top and shares; refused with 2, 3, 4, 5 or 8.
-#[unsafe(no_mangle)]
-pub extern "C" fn pit_open(desks: u8, piles: u8, list: &[u32], out: &mut [u8]) -> u8
+pub fn pit_open(desks: u8, piles: u8, list: &[u32], out: &mut [u8]) -> u8
     ensures answer { result ≡ opening_answer desks piles list.now (length out.old) }
     ensures out { out.new ≡ after_opening desks piles list.now out.old }
 {
@@ -16,8 +15,7 @@ pub extern "C" fn pit_open(desks: u8, piles: u8, list: &[u32], out: &mut [u8]) -
 }
 
 // The book's own refusal, 1 to 7, or 0.
-#[unsafe(no_mangle)]
-pub extern "C" fn pit_check(book: &[u8]) -> u8
+pub fn pit_check(book: &[u8]) -> u8
     ensures { result ≡ book_answer book.now }
 {
     check(book)

@@ -7,8 +7,7 @@ use rows::{Comparison, compare};
 
 // The order of two rows into a lent number: 1 where they are alike, 2 where mine is later, 3 where the copy's is, 4 where they are split; refused with 3
 // where they differ in length or have the length of no row.
-#[unsafe(no_mangle)]
-pub extern "C" fn pit_compare(mine: &[u8], copy: &[u8], order: &mut u32) -> u8
+pub fn pit_compare(mine: &[u8], copy: &[u8], order: &mut u32) -> u8
     ensures answer { result ≡ answer_of (order_reply (compared mine.now copy.now)) }
     ensures order { order.new ≡ value_of (order_reply (compared mine.now copy.now)) order.old }
 {

@@ -24,8 +24,7 @@ fn put_entries(book: &[u8], p: u8, numbers: &mut [u32], positions: &mut [u32])
 }
 
 // The contents of a book, in its order; refused with 1 to 7 or, where either list is shorter than the contents, 8. Entries past the contents stay.
-#[unsafe(no_mangle)]
-pub extern "C" fn pit_contents(book: &[u8], numbers: &mut [u32], positions: &mut [u32]) -> u8
+pub fn pit_contents(book: &[u8], numbers: &mut [u32], positions: &mut [u32]) -> u8
     ensures answer { result ≡ lists_answer book.now numbers.old positions.old }
     ensures numbers { numbers.new ≡ after_numbers book.now numbers.old positions.old }
     ensures positions { positions.new ≡ after_positions book.now numbers.old positions.old }

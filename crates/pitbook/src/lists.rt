@@ -6,8 +6,7 @@ ghost use Rattle.reconcile.specs.Lists.{reconcile_answer, reconciliation};
 use reconcile::reconcile;
 
 // Compares two lists of tickets, each rising by ticket number; refused with 3, 33, 34, 13, 35, 36 or 37.
-#[unsafe(no_mangle)]
-pub extern "C" fn pit_reconcile(
+pub fn pit_reconcile(
     bridge: &[u8],
     desk: &[u8],
     alike: &mut u32,

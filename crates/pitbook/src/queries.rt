@@ -26,8 +26,7 @@ fn hand_out(reply: Amount, out: &mut u32) -> u8
 }
 
 // A desk's draw rights of a pile; refused with 1 to 7, 11 or 10.
-#[unsafe(no_mangle)]
-pub extern "C" fn pit_draw_rights(book: &[u8], desk: u8, pile: u16, out: &mut u32) -> u8
+pub fn pit_draw_rights(book: &[u8], desk: u8, pile: u16, out: &mut u32) -> u8
     ensures answer { result ≡ answer_of (rights_reply draw desk book.now pile) }
     ensures out { out.new ≡ value_of (rights_reply draw desk book.now pile) out.old }
 {
@@ -35,8 +34,7 @@ pub extern "C" fn pit_draw_rights(book: &[u8], desk: u8, pile: u16, out: &mut u3
 }
 
 // A desk's tip rights of a pile; refused with 1 to 7, 11 or 10.
-#[unsafe(no_mangle)]
-pub extern "C" fn pit_tip_rights(book: &[u8], desk: u8, pile: u16, out: &mut u32) -> u8
+pub fn pit_tip_rights(book: &[u8], desk: u8, pile: u16, out: &mut u32) -> u8
     ensures answer { result ≡ answer_of (rights_reply tip desk book.now pile) }
     ensures out { out.new ≡ value_of (rights_reply tip desk book.now pile) out.old }
 {
@@ -44,8 +42,7 @@ pub extern "C" fn pit_tip_rights(book: &[u8], desk: u8, pile: u16, out: &mut u32
 }
 
 // The tonnage of a pile by the acts that the book holds; refused with 1 to 7 or 10.
-#[unsafe(no_mangle)]
-pub extern "C" fn pit_tonnage(book: &[u8], pile: u16, out: &mut u32) -> u8
+pub fn pit_tonnage(book: &[u8], pile: u16, out: &mut u32) -> u8
     ensures answer { result ≡ answer_of (tonnage_reply book.now pile) }
     ensures out { out.new ≡ value_of (tonnage_reply book.now pile) out.old }
 {
@@ -53,8 +50,7 @@ pub extern "C" fn pit_tonnage(book: &[u8], pile: u16, out: &mut u32) -> u8
 }
 
 // The least that a pile has by all acts made, as far as a desk can be sure; refused with 1 to 7, 11 or 10.
-#[unsafe(no_mangle)]
-pub extern "C" fn pit_least(book: &[u8], desk: u8, pile: u16, out: &mut u32) -> u8
+pub fn pit_least(book: &[u8], desk: u8, pile: u16, out: &mut u32) -> u8
     ensures answer { result ≡ answer_of (bound_reply draw desk book.now pile) }
     ensures out { out.new ≡ value_of (bound_reply draw desk book.now pile) out.old }
 {
@@ -62,8 +58,7 @@ pub extern "C" fn pit_least(book: &[u8], desk: u8, pile: u16, out: &mut u32) -> 
 }
 
 // The most that a pile has by all acts made, as far as a desk can be sure; refused with 1 to 7, 11 or 10.
-#[unsafe(no_mangle)]
-pub extern "C" fn pit_most(book: &[u8], desk: u8, pile: u16, out: &mut u32) -> u8
+pub fn pit_most(book: &[u8], desk: u8, pile: u16, out: &mut u32) -> u8
     ensures answer { result ≡ answer_of (bound_reply tip desk book.now pile) }
     ensures out { out.new ≡ value_of (bound_reply tip desk book.now pile) out.old }
 {
@@ -71,8 +66,7 @@ pub extern "C" fn pit_most(book: &[u8], desk: u8, pile: u16, out: &mut u32) -> u
 }
 
 // Where the body of a pile starts, its contents position, and its length; refused with 1 to 7 or 10.
-#[unsafe(no_mangle)]
-pub extern "C" fn pit_body(book: &[u8], pile: u16, start: &mut usize, length: &mut usize) -> u8
+pub fn pit_body(book: &[u8], pile: u16, start: &mut usize, length: &mut usize) -> u8
     ensures answer { result ≡ fetch_answer book.now pile }
     ensures start { start.new ≡ start_or book.now pile start.old }
     ensures length { length.new ≡ length_or book.now pile length.old }

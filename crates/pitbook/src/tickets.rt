@@ -6,8 +6,7 @@ ghost use Rattle.ticket.specs.Tickets.{as_ticket, ticket_of, read_answer, write_
 use ticket::Ticket;
 
 // Reads a ticket of 11 bytes; refused with 3, 33, 34, 13 or 35. Kind is 1 for a tip and 2 for a draw.
-#[unsafe(no_mangle)]
-pub extern "C" fn pit_read_ticket(
+pub fn pit_read_ticket(
     bytes: &[u8],
     number: &mut u32,
     pile: &mut u32,
@@ -36,8 +35,7 @@ pub extern "C" fn pit_read_ticket(
 }
 
 // Writes a ticket from a lent buffer's start on; refused with 33, 34, 13, 35 or, last, 8. Bytes past the ticket stay.
-#[unsafe(no_mangle)]
-pub extern "C" fn pit_write_ticket(
+pub fn pit_write_ticket(
     number: u32,
     pile: u32,
     tonnes: u32,
