@@ -1,14 +1,13 @@
--- The list that a book is opened from: where pile k and its numbers stand in it, and that it is short, so that no place in it wraps.
+-- The list that a book is opened from: where pile k and its numbers stand in it.
 -- Assumes nothing.
-use Prim.Native.Nat.{ℕ, ◌+◌, ◌*◌, ◌≤◌, ◌<◌}
-use native.Mathlib.Nat.{add-zero, mul-le-mul, le_of_eq}
+use Prim.Native.Nat.{ℕ, ◌+◌, ◌*◌, ◌≤◌}
+use native.Mathlib.Nat.{add-zero, le_of_eq}
 use native.Mathlib.Omega.{arith}
 use mathlib.Core.Path.{◌≡◌, ap, sym, ◌∙◌}
 use mathlib.Core.List.{List}
 use lib.ListN.{length, get_or}
-use Rattle.rules.specs.Layout.{desk_limit, pile_limit, Sizes}
+use Rattle.rules.specs.Layout.{Sizes}
 use Rattle.rules.specs.Opening.{given}
-use Rattle.rules.proofs.Loops.Ranges.{piece_within}
 use Rattle.opening.specs.Inner.{InList, Openings}
 
 -- a list of the right length has all its piles
@@ -19,19 +18,10 @@ whole_list sizes long =
       in_list = record { desks_most = sizes.desks_most; piles_most = sizes.piles_most; long = le_of_eq (sym long) };
     }
 
-pub pile_in_list : {n p k : ℕ} {l : List ℕ} → InList n p l → k < p → InList n (k + 1) l
-pile_in_list {n} all k<p =
-    record { desks_most = all.desks_most; piles_most = omega arith; long = omega (arith, piece_within (3 + 2 * n) k<p) }
-
 -- places by how many numbers the list has for a pile, as code computes it
 module _ (n k : ℕ) {size : ℕ} (is : size ≡ 3 + 2 * n) where
   place_is : k * size ≡ k * (3 + 2 * n)
   place_is = ap (λ (x : ℕ). k * x) is
-
-  pub list_short : n ≤ desk_limit → k ≤ pile_limit → k * size ≤ 608
-  list_short n≤8 k≤32 =
-      let high : size ≤ 19 = omega arith in
-      mul-le-mul k≤32 high
 
   -- the numbers of pile k are all there
   pub pile_there : {l : List ℕ} → InList n (k + 1) l → k * size + (3 + 2 * n) ≤ length l

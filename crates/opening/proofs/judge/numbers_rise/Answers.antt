@@ -1,0 +1,19 @@
+-- `numbers_rise` tests one number after the other against the one before it and the highest, and stops at the first that is wrong.
+use mathlib.Core.Path.{sym}
+use mathlib.Core.Logic.{inl, inr}
+use Rattle.rules.proofs.File.Risen.{none_risen, next_risen, not_risen}
+use Rattle.opening.proofs.GivenList.{given_number}
+use Rattle.opening.proofs.judge.numbers_rise.Goals as goal
+
+pub loop-k-init : goal.loop-k-init
+loop-k-init c = none_risen
+
+pub returns-then-number-last : goal.returns-then-number-last
+returns-then-number-last c = sym (not_risen c.loop-k.invariant c.loop-k-test.true (given_number _ _ c.given_length-length.ensures _) (inl c.if-number-last.true))
+
+pub returns-then-number-gt-LAST_NUMBER : goal.returns-then-number-gt-LAST_NUMBER
+returns-then-number-gt-LAST_NUMBER c = sym (not_risen c.loop-k.invariant c.loop-k-test.true (given_number _ _ c.given_length-length.ensures _) (inr c.if-number-gt-LAST_NUMBER.true))
+
+pub loop-k-preserved : goal.loop-k-preserved
+loop-k-preserved c =
+    next_risen c.loop-k.invariant c.loop-k-test.true (given_number _ _ c.given_length-length.ensures _) c.if-number-last.false c.if-number-gt-LAST_NUMBER.false
