@@ -2,7 +2,7 @@
 use Prim.Native.Nat.{suc, ◌+◌}
 use mathlib.Core.Path.{sym, ◌∙◌}
 use native.Mathlib.Omega.{arith}
-use borrow.Author.Tests.{ltb-true, ltb-false, not-true, not-false}
+use borrow.Author.Tests.{ltb-true, ltb-false}
 use lib.ListN.{length}
 use Rattle.rules.specs.Numbers.{number}
 use Rattle.number.proofs.Laws.{number_past}

@@ -2,7 +2,7 @@
 use Prim.Native.Nat.{◌+◌, ◌≤◌}
 use mathlib.Core.Path.{sym, ◌∙◌}
 use native.Mathlib.Omega.{arith}
-use borrow.Author.Tests.{ltb-false, not-true}
+use borrow.Author.Tests.{ltb-false}
 use lib.ListN.{length}
 use Rattle.number.proofs.Laws.{number_past, number_halves}
 use Rattle.number.proofs.get4.Goals as goal

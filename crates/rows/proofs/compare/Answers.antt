@@ -5,7 +5,6 @@ use mathlib.Core.Path.{◌≡◌, refl, ap₂, sym, ◌∙◌}
 use borrow.Author.Rules.{rules}
 use Rattle.rules.specs.Loops.{every}
 use Rattle.rules.specs.Rows.{at_least, places, compared}
-use Rattle.rules.proofs.Loops.Logic.{holds, fails}
 use Rattle.rules.proofs.Bytes.Numbers.{number_read}
 use Rattle.rules.proofs.Take.RowOrder.{order_by, at_least_fails, at_least_stays}
 use Rattle.rules.proofs.Take.Compared.{no_row, lengths_differ, by_tests}
@@ -29,12 +28,12 @@ loop-c-preserved c =
     let y-is = number_read 4 rows.copy.now (c.loop-c.c * 4) c.get4-y.ensures in (
       search rules,
       elim c.if-x-y.branch [
-        then-x-y w ↦ w.mine_above-is ∙ sym (at_least_fails _ _ _ x-is y-is w.if-x-y.true)
-      | else-x-y w ↦ w.mine_above-is ∙ c.loop-c.invariant.1 ∙ sym (at_least_stays _ _ _ x-is y-is w.if-x-y.false)
+        | then-x-y w ↦ w.mine_above-is ∙ sym (at_least_fails _ _ _ x-is y-is w.if-x-y.true)
+        | else-x-y w ↦ w.mine_above-is ∙ c.loop-c.invariant.1 ∙ sym (at_least_stays _ _ _ x-is y-is w.if-x-y.false)
       ],
       elim c.if-y-x.branch [
-        then-y-x w ↦ w.copy_above-is ∙ sym (at_least_fails _ _ _ y-is x-is w.if-y-x.true)
-      | else-y-x w ↦ w.copy_above-is ∙ c.loop-c.invariant.2 ∙ sym (at_least_stays _ _ _ y-is x-is w.if-y-x.false)
+        | then-y-x w ↦ w.copy_above-is ∙ sym (at_least_fails _ _ _ y-is x-is w.if-y-x.true)
+        | else-y-x w ↦ w.copy_above-is ∙ c.loop-c.invariant.2 ∙ sym (at_least_stays _ _ _ y-is x-is w.if-y-x.false)
       ],
     )
 

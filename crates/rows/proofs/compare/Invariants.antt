@@ -1,7 +1,7 @@
 -- `compare` asks for one length of a row, goes over the places once, and keeps whether each row has been at least the other so far.
 use Prim.Native.Nat.{◌-◌, ◌≤◌}
 use mathlib.Core.Path.{◌≡◌}
-use Rattle.rules.specs.Rows.{at_least, numbers_of, places}
+use Rattle.rules.specs.Rows.{at_least, numbers_of}
 use Rattle.rows.proofs.compare.Given as goal
 
 abbrev pub invariant-loop-c : goal.invariant-loop-c

@@ -13,7 +13,6 @@ use Rattle.rules.specs.Loops.{flat, list}
 use Rattle.rules.specs.Numbers.{number, encode, part}
 use Rattle.rules.specs.Pile.{Side, draw, tip, Pile}
 use Rattle.rules.specs.Layout.{row_length, body_length, cell_at, column, earned_column, view, body_view, row_of, body_row, body_bytes, columns}
-use Rattle.rules.specs.Acts.{give}
 use Rattle.rules.proofs.Loops.Sums.{term_le}
 use Rattle.rules.proofs.Loops.Pieces.{length_flat, flat_cong, flat_parts, length_list, getD_list, list_cong, list_add}
 use Rattle.rules.proofs.Bytes.Numbers.{Octets, number_part, number_flat, length_encode, number_encode, encode_numbers}

@@ -3,7 +3,6 @@ use mathlib.Core.Path.{◌≡◌, ap, ◌∙◌, sym}
 use mathlib.Core.Bool.{true}
 use Rattle.rules.specs.Layout.{Head, head_for, sizes_in_range, book_length}
 use Rattle.rules.specs.Opening.{buffer_length}
-use Rattle.rules.proofs.Loops.Logic.{fails, holds}
 use Rattle.rules.proofs.File.Readable.{sizes_range}
 use Rattle.layout.specs.Positions.{body_position}
 use Rattle.layout.proofs.Positions.{position_is}

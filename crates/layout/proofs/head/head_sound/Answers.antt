@@ -2,7 +2,7 @@
 use mathlib.Core.Path.{sym, ◌∙◌}
 use borrow.Author.Tests.{ne_eqb, eq-eqb}
 use Rattle.rules.specs.Book.{head_sound}
-use Rattle.rules.proofs.Loops.Logic.{and_left_fails, and_right_fails, and_left_holds, fails, holds}
+use Rattle.rules.proofs.Loops.Logic.{and_left_fails, and_right_fails, and_left_holds}
 use Rattle.layout.proofs.head.head_sound.Goals as goal
 
 pub returns-then-head-ne-VERSION : goal.returns-then-head-ne-VERSION

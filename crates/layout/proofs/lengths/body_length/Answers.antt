@@ -1,5 +1,5 @@
 -- `body_length` reads a table whose entries are document 01's lengths: one test says so of all eight, and antt computes it on the code's own table.
-use Rattle.std.proofs.Common.{ℕ, ◌+◌, ◌-◌, ◌≤◌, ◌<◌, List, get_or, ◌≡◌, refl, ap, sym, ◌∙◌, true, inl, inr, arith, rules}
+use Rattle.std.proofs.Common.{ℕ, ◌+◌, ◌-◌, ◌≤◌, ◌<◌, List, get_or, ◌≡◌, ap, sym, ◌∙◌, true, inl, inr, arith, rules}
 use lib.Dec.{eqb}
 use borrow.Author.Tests.{eqb-true}
 use Rattle.rules.specs.Loops.{◌and◌, every}
