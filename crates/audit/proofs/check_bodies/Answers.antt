@@ -68,8 +68,7 @@ overflow_add-at c =
 
 pub loop-k-preserved : goal.loop-k-preserved
 loop-k-preserved c =
-    let a = c.args in
-    (
+    let a = c.args in (
       search rules,
       omega (arith, c.loop-k.invariant.1, size_is (goal.at.loop-k-preserved c).After-body_length-size, add-mul c.loop-k.k 1 (body_length a.n), one-mul (body_length a.n)),
       body_passed a.n a.p a.from a.bytes.now c.loop-k.k c.loop-k.invariant.2 c.loop-k.invariant.1 c.body_answer-answer.ensures.answer c.if-answer-ne0.false,

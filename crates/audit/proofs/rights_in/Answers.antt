@@ -5,7 +5,6 @@ use mathlib.Core.Path.{◌≡◌, ap, sym, ◌∙◌}
 use mathlib.Core.Bool.{true}
 use lib.ListN.{length}
 use Rattle.rules.specs.Pile.{Side, draw, tip, side_of, rights}
-use Rattle.rules.proofs.Loops.Logic.{holds, fails}
 use Rattle.layout.specs.Inner.{BodyWithin, first_body, rest}
 use Rattle.layout.proofs.Sides.{draw_side, tip_side}
 use Rattle.layout.proofs.Views.{within_from}

@@ -9,7 +9,6 @@ use Rattle.rules.specs.Loops.{sum}
 use Rattle.rules.specs.Numbers.{number}
 use Rattle.rules.specs.Pile.{Pile, draw, tip, tonnage}
 use Rattle.rules.specs.Layout.{cell_at}
-use Rattle.rules.proofs.Loops.Logic.{holds, fails}
 use Rattle.rules.proofs.Loops.Arrays.{sum_next}
 use Rattle.layout.specs.Inner.{BodyWithin, first_body, rest}
 use Rattle.layout.proofs.Views.{within_from}

@@ -28,5 +28,5 @@ returns c =
     let at = (goal.at.returns c).Else-refusal-ne0 in
     let padded = c.pad.ensures in
     let both = fetch_list a.book.now a.number a.out.now (found at) (c.seek-found.ensures.start ∙ found_start 0 _ _ (sought at))
-        (rw (desks_are at) at padded.answer, rw (desks_are at) at padded.out) in
+    (rw (desks_are at) at padded.answer, rw (desks_are at) at padded.out) in
     record { answer = both.0; out = both.1 }

@@ -4,7 +4,6 @@ use mathlib.Core.Path.{◌≡◌, refl}
 use Rattle.rules.specs.Loops.{list, flat}
 use Rattle.rules.specs.Layout.{desk_limit}
 use Rattle.rules.proofs.Record.Padded.{padded_next}
-use Rattle.audit.specs.Audits.{rights_in}
 use borrow.Author.Rules.{rules}
 use Rattle.audit.proofs.accounts.side_rights.Goals as goal
 

@@ -3,7 +3,6 @@
 use Prim.Native.Nat.{ℕ, ◌+◌, ◌≤◌, ◌<◌}
 use native.Mathlib.Omega.{arith}
 use mathlib.Core.Path.{◌≡◌, refl, ap, ◌∙◌}
-use mathlib.Core.Logic.{⊎_elim}
 use lib.ListN.{length, get_or}
 use lib.Dec.{leb}
 use Rattle.rules.specs.Loops.{sum, every}
@@ -122,21 +121,20 @@ pub loop-i-preserved : goal.loop-i-preserved
 loop-i-preserved c =
     let i<n = c.loop-i-test.true in
     let draws = credit_at c.requires.draws c.loop-i.i i<n (tipped (goal.at.loop-i-preserved c).After-word-drawn) in
-    let tips = credit_at c.requires.tips c.loop-i.i i<n (drawn (goal.at.loop-i-preserved c).After-word-drawn) in
-    (
+    let tips = credit_at c.requires.tips c.loop-i.i i<n (drawn (goal.at.loop-i-preserved c).After-word-drawn) in (
       search rules,
       omega (arith, size_is (goal.at.loop-i-preserved c).At-loop-i, row_after c.args.n c.loop-i.i c.loop-i.invariant.1),
       omega (arith, most (goal.at.loop-i-preserved c).After-word-drawn),
       covered_next (λ k s. leb (debit _ (P (goal.at.loop-i-preserved c).After-word-drawn) s k) (credit _ (P (goal.at.loop-i-preserved c).After-word-drawn) s k)) c.loop-i.i {one = c.if-draw_credit-draw_given.covered} c.loop-i.invariant.3
           (rw (← draws, ← debit_at c.requires.draws c.loop-i.i i<n (drawn (goal.at.loop-i-preserved c).After-word-drawn))
           (elim c.if-draw_credit-draw_given.branch [
-            then-draw_credit-draw_given w ↦ cleared _ w.if-draw_credit-draw_given.true w.covered-is
-          | else-draw_credit-draw_given w ↦ kept w.if-draw_credit-draw_given.false w.covered-is
+            | then-draw_credit-draw_given w ↦ cleared _ w.if-draw_credit-draw_given.true w.covered-is
+            | else-draw_credit-draw_given w ↦ kept w.if-draw_credit-draw_given.false w.covered-is
           ]))
           (rw (← tips, ← debit_at c.requires.tips c.loop-i.i i<n (tipped (goal.at.loop-i-preserved c).After-word-drawn))
           (elim c.if-tip_credit-tip_given.branch [
-            then-tip_credit-tip_given w ↦ cleared _ w.if-tip_credit-tip_given.true w.covered-is
-          | else-tip_credit-tip_given w ↦ kept w.if-tip_credit-tip_given.false w.covered-is
+            | then-tip_credit-tip_given w ↦ cleared _ w.if-tip_credit-tip_given.true w.covered-is
+            | else-tip_credit-tip_given w ↦ kept w.if-tip_credit-tip_given.false w.covered-is
           ])),
       rw (sum_next c.loop-i.i, ← draws, ← tips, ← c.loop-i.invariant.4) (omega arith),
     )

@@ -5,7 +5,6 @@ use mathlib.Core.Path.{◌≡◌}
 use Rattle.rules.specs.Loops.{sum, every}
 use Rattle.rules.specs.Pile.{draw, tip, credit}
 use Rattle.rules.specs.Layout.{cell_at}
-use Rattle.rules.proofs.File.Body as body
 use Rattle.layout.specs.Inner.{first_body}
 use Rattle.audit.proofs.Account.{covers}
 use Rattle.audit.proofs.judge.balance_of.Given as goal

@@ -5,7 +5,7 @@ use mathlib.Core.Path.{◌≡◌, ap, ap₂, sym, ◌∙◌}
 use lib.Dec.{leb, eqb}
 use Rattle.rules.specs.Loops.{◌and◌}
 use Rattle.rules.specs.Numbers.{number}
-use Rattle.rules.specs.Pile.{Pile, draw, tip, top_limit, opening_lawful}
+use Rattle.rules.specs.Pile.{draw, tip, top_limit, opening_lawful}
 use Rattle.rules.specs.Layout.{cell_at}
 use Rattle.layout.specs.Inner.{first_body}
 use Rattle.audit.proofs.Places.{on_earned}
@@ -78,9 +78,12 @@ shape_of-tip_given c = c.read_rows_of-own.ensures.tips.made_long ∙ sym c.requi
 pub returns : goal.returns
 returns c =
     let read = c.read_rows_of-own.ensures in
-    record { answer = c.verdict.ensures; lists = record {
+    record {
+      answer = c.verdict.ensures;
+      lists = record {
         draws_long = read.draws.totals_long;
         draw_given_long = read.draws.made_long;
         tips_long = read.tips.totals_long;
         tip_given_long = read.tips.made_long;
-      } }
+      };
+    }

@@ -2,10 +2,8 @@
 use native.Mathlib.Omega.{arith}
 use mathlib.Core.Path.{◌≡◌, sym, ◌∙◌}
 use mathlib.Core.Bool.{true}
-use mathlib.Core.Logic.{⊎_elim}
-use borrow.Author.Tests.{not-true, not-false}
 use Rattle.rules.specs.Loops.{every}
-use Rattle.rules.specs.Pile.{Pile, opening_lawful, tallies_lawful}
+use Rattle.rules.specs.Pile.{opening_lawful, tallies_lawful}
 use Rattle.layout.specs.Inner.{first_body}
 use Rattle.audit.proofs.Verdict.{own_refused, small_lawful, read_lawful, answer_5, answer_6, answer_7, answer_0}
 use Rattle.audit.proofs.judge.verdict.Goals as goal
@@ -20,8 +18,8 @@ within c =
     let a = c.args in
     let own = sym c.requires.own ∙ c.if-own-ne0.false in
     elim c.if-credits-gt-TALLY_LIMIT.branch [
-      then-credits-gt-TALLY_LIMIT+else-not-rows_within all ↦ sym (read_lawful a.n a.body.now own) ∙ sym all.rows_within.ensures ∙ all.if-not-rows_within.false
-    | else-credits-gt-TALLY_LIMIT few ↦ small_lawful a.n (first_body a.n a.body.now) own (omega (arith, c.requires.credits, few.if-credits-gt-TALLY_LIMIT.false))
+      | then-credits-gt-TALLY_LIMIT+else-not-rows_within all ↦ sym (read_lawful a.n a.body.now own) ∙ sym all.rows_within.ensures ∙ all.if-not-rows_within.false
+      | else-credits-gt-TALLY_LIMIT few ↦ small_lawful a.n (first_body a.n a.body.now) own (omega (arith, c.requires.credits, few.if-credits-gt-TALLY_LIMIT.false))
     ]
 
 pub returns-then-not-opening : goal.returns-then-not-opening

@@ -1,7 +1,6 @@
 -- `row_within` looks at one number of the row after the other, and stops at the first that is above the limit.
 use native.Mathlib.Omega.{arith}
 use mathlib.Core.Path.{◌≡◌, refl, sym}
-use mathlib.Core.Bool.{true}
 use borrow.Author.Tests.{le-leb, lt-leb}
 use Rattle.rules.specs.Loops.{every}
 use Rattle.rules.specs.Numbers.{number}

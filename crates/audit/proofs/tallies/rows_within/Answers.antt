@@ -3,7 +3,6 @@ use Prim.Native.Nat.{suc}
 use native.Mathlib.Numerals.{add-one}
 use native.Mathlib.Omega.{arith}
 use mathlib.Core.Path.{◌≡◌, refl, ap, sym, ◌∙◌}
-use borrow.Author.Tests.{not-true, not-false}
 use Rattle.rules.specs.Loops.{every}
 use Rattle.rules.proofs.Loops.Every.{every_next, every_stops}
 use borrow.Author.Rules.{rules}

@@ -2,7 +2,6 @@
 use Prim.Native.Nat.{ℕ, ◌+◌, ◌-◌, ◌*◌}
 use native.Mathlib.Omega.{arith}
 use mathlib.Core.Path.{refl}
-use Rattle.rules.specs.Numbers.{bytes}
 use Rattle.rules.proofs.Bytes.Numbers.{length_bytes, encode_list}
 use Rattle.rules.proofs.Loops.Writing.{none_written, next_written, all_written}
 use Rattle.padding.proofs.Parts.{put_in_part}

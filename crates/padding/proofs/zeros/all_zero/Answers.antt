@@ -13,14 +13,13 @@ unfolding every
 loop-k-init c = (search rules, refl)
 
 pub loop-k-preserved : goal.loop-k-preserved
-loop-k-preserved c =
-    (
-      search rules,
-      elim c.if-numbers-from-ne0.branch [
-        then-numbers-from-ne0 w ↦ w.zero-is ∙ sym (every_stops _ _ c.loop-k.k (omega arith) (ne_eqb _ 0 w.if-numbers-from-ne0.true))
-      | else-numbers-from-ne0 w ↦ w.zero-is ∙ c.loop-k.invariant.1 ∙ sym (every_more _ _ (eq-eqb _ 0 w.if-numbers-from-ne0.false))
-      ],
-    )
+loop-k-preserved c = (
+  search rules,
+  elim c.if-numbers-from-ne0.branch [
+    | then-numbers-from-ne0 w ↦ w.zero-is ∙ sym (every_stops _ _ c.loop-k.k (omega arith) (ne_eqb _ 0 w.if-numbers-from-ne0.true))
+    | else-numbers-from-ne0 w ↦ w.zero-is ∙ c.loop-k.invariant.1 ∙ sym (every_more _ _ (eq-eqb _ 0 w.if-numbers-from-ne0.false))
+  ],
+)
 
 pub returns : goal.returns
 returns c =

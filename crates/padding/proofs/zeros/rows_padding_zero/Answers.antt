@@ -1,7 +1,6 @@
 -- `rows_padding_zero` tests the rows of n desks one after the other, and those past them as one range.
 use native.Mathlib.Omega.{arith}
 use mathlib.Core.Path.{◌≡◌, refl, sym, ◌∙◌}
-use mathlib.Core.Bool.{true}
 use borrow.Author.Rules.{rules}
 use Rattle.rules.specs.Loops.{every}
 use Rattle.rules.proofs.Loops.Logic.{and_left_fails, and_left_holds}

@@ -20,8 +20,8 @@ loop-k-preserved c =
     let read = number_read 4 a.book.now (a.at + c.loop-k.k * 4) c.get4.ensures in (
       search rules,
       elim c.if-numbers-from.branch [
-        then-numbers-from w ↦ w.same-is ∙ sym (every_stops _ _ c.loop-k.k (omega arith) (ne_eqb _ _ (λ e. w.if-numbers-from.true (e ∙ sym read))))
-      | else-numbers-from w ↦ w.same-is ∙ c.loop-k.invariant.1 ∙ sym (every_more _ _ (eq-eqb _ _ (w.if-numbers-from.false ∙ read)))
+        | then-numbers-from w ↦ w.same-is ∙ sym (every_stops _ _ c.loop-k.k (omega arith) (ne_eqb _ _ (λ e. w.if-numbers-from.true (e ∙ sym read))))
+        | else-numbers-from w ↦ w.same-is ∙ c.loop-k.invariant.1 ∙ sym (every_more _ _ (eq-eqb _ _ (w.if-numbers-from.false ∙ read)))
       ],
     )
 
