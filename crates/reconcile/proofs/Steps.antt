@@ -1,6 +1,6 @@
 -- A step of the walk over two lists of bytes: as one of the lists has it, and as both do.
 -- Assumes nothing.
-use Prim.Native.Nat.{ℕ, ◌+◌, ◌/◌, ◌≤◌, ◌<◌}
+use Prim.Native.Nat.{ℕ, ◌+◌, ◌/◌, ◌<◌}
 use native.Mathlib.Decide.{dec_lt}
 use native.Mathlib.Omega.{arith}
 use mathlib.Core.Path.{◌≡◌, ap, ap₂, sym, ◌∙◌}
@@ -13,7 +13,7 @@ use Rattle.ticket.specs.Tickets.{ticket_length}
 use Rattle.reconcile.specs.declared.cursor.Cursor.{Cursor}
 use Rattle.reconcile.specs.declared.walk.Walk.{Walk}
 use Rattle.reconcile.specs.Counts.{ticket_at, same_ticket}
-use Rattle.reconcile.specs.Lists.{list_limit, tickets_of}
+use Rattle.reconcile.specs.Lists.{tickets_of}
 use Rattle.reconcile.specs.Inner.{cursor_at, next_number, Standing, Sound, ListWalked, Walked}
 use Rattle.reconcile.proofs.SameTicket.{same_exchanged}
 use Rattle.reconcile.proofs.Passing.{pass_own, pass_other, pass_both}
@@ -38,10 +38,6 @@ module _ {b : List ℕ} {c : Cursor} (s : Standing b c) (sound : Sound b) where
 -- a step, as one of the lists has it
 module _ {own other : List ℕ} {c d : Cursor} {alike differing only only' : ℕ}
     (mine : ListWalked own other c d alike differing only) (theirs : ListWalked other own d c alike differing only') where
-  -- tickets are no more than a list can have
-  pub room : c.at < length own → alike + differing + only + 1 ≤ list_limit
-  room less = omega (arith, inside mine.standing less, mine.adds_up, mine.standing.short)
-
   next_less : c.head.number < d.head.number → Sound own → Sound other
       → next_number (tickets_of own) (c.at / ticket_length) < next_number (tickets_of other) (d.at / ticket_length)
   next_less less s s' = omega (arith, head_number mine.standing s, head_number theirs.standing s')

@@ -5,6 +5,7 @@ use mathlib.Core.Path.{◌≡◌, refl, ap, ap₂, sym, ◌∙◌}
 use mathlib.Core.Bool.{Bool, true, false, not}
 use mathlib.Core.List.{List, [], ◌∷◌}
 use mathlib.Core.Logic.{◌≢◌}
+use lib.Dec.{ltb}
 use lib.ListN.{length, get_or}
 use lib.Seq.{sets}
 use borrow.Author.Tests.{eq-eqb, ne_eqb}
@@ -62,6 +63,12 @@ unfolding ticket_bytes packed_bytes
 fields_written out t = refl
 
 module _ (t : Ticket) (out : List ℕ) where
+  -- where all fields are right, the room is asked
+  pub room_asked : {refusal : ℕ} {room : Bool} → refusal ≡ fields_answer true true true t → refusal ≡ 0 → ltb (length out) ticket_length ≡ room
+      → 8 when room ≡ write_answer t out
+  unfolding write_answer
+  room_asked e right asked = ap (λ (b : Bool). 8 when b) (sym asked) ∙ sym (or_else_passes (sym e ∙ right) _)
+
   pub write_refused : {answer : ℕ} → answer ≡ write_answer t out → answer ≢ 0 → (answer ≡ write_answer t out) × (out ≡ after_write t out)
   unfolding after_write
   write_refused e d = (e, sym (when_refused _ _ _ (λ z. d (e ∙ z))))
