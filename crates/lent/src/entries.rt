@@ -18,6 +18,7 @@ pub struct Entry {
 }
 
 // The book's own refusal, 1 to 7, then 8 where there is less room than the contents need, or 0.
+#[tactic(auto, using(crate::proofs::Lines::contents_lines))]
 pub(crate) fn contents_answer(book: &[u8], room: usize) -> u8
     ensures { result ≡ contents_answer book.now room }
 {
@@ -32,6 +33,7 @@ pub(crate) fn contents_answer(book: &[u8], room: usize) -> u8
 }
 
 // How many entries are filled: none where the call is refused.
+#[tactic(auto, unfolding(rules::specs::Refusals::done))]
 pub(crate) fn entries_filled(book: &[u8], answer: u8) -> usize
     ensures { result ≡ done answer (head_in book.now).piles 0 }
 {

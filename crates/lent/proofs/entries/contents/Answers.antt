@@ -2,16 +2,14 @@
 use Rattle.std.proofs.Common.{◌≡◌, ℕ, List, length, ap, sym, ◌∙◌, arith}
 use Rattle.std.proofs.Math.Logic.{by_cases}
 use Rattle.std.proofs.Math.Decide.{ℕ_discrete}
-use Rattle.rules.specs.Layout.{Head}
 use Rattle.rules.specs.Refusals.{done}
 use Rattle.rules.specs.Book.{contents_answer}
 use Rattle.rules.proofs.Loops.Refusals.{or_else_first, when_refused}
 use Rattle.rules.proofs.Loops.Partly.{partly_none, partly_next}
-use Rattle.rules.proofs.File.Readable.{book_facts}
 use Rattle.rules.proofs.File.Contents.{entries_filled, filled_within, contents_filled}
 use Rattle.layout.specs.Positions.{head_in}
-use Rattle.layout.proofs.Positions.{head_there}
 use Rattle.lent.specs.Entries.{entry_of}
+use Rattle.lent.proofs.Lines.{piles_read}
 use Rattle.lent.proofs.entries.contents.Goals as goal
 use Rattle.lent.proofs.entries.contents.Goals.{After-entries_filled-filled}
 
@@ -20,7 +18,7 @@ filled_is : (b : List ℕ) (room : ℕ) → done (contents_answer b room) (head_
 unfolding contents_answer
 filled_is b room =
     by_cases (ℕ_discrete (contents_answer b room) 0)
-    (λ z. ap (λ (h : Head). done (contents_answer b room) h.piles 0) (head_there b (book_facts b (or_else_first _ _ z)).long))
+    (λ z. ap (λ p. done (contents_answer b room) p 0) (piles_read b (or_else_first _ _ z)))
     (λ d. when_refused _ _ _ d ∙ sym (when_refused _ _ _ d))
 
 filled_are : (c : After-entries_filled-filled) → c.entries_filled-filled.result ≡ entries_filled c.args.book.now (length c.args.entries.now)

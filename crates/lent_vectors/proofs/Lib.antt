@@ -1,4 +1,0 @@
-pub mod Passing
-pub mod OnLocal
-pub mod Handed
-pub mod OnList
