@@ -30,12 +30,12 @@ fn handed(rt: &impl Print, row: &[u8]) -> io::Result<()> {
     Ok(())
 }
 
-fn line<'a>(label: &[u8], a: &'a [u8], b: &'a [u8]) {
-    text(label);
-    text(b":");
-    order(compare(a, b));
-    handed(later_row(a, b));
-    end();
+fn line<'a>(rt: &impl Print, label: &[u8], a: &'a [u8], b: &'a [u8]) -> io::Result<()> {
+    text(rt, label)?;
+    text(rt, b":")?;
+    order(rt, compare(a, b))?;
+    handed(rt, later_row(a, b))?;
+    end(rt)
 }
 
 // A row of two desks with these numbers, each below 256.
@@ -48,50 +48,50 @@ fn row(tipped: u8, drawn: u8, draw_give: u8, tip_give: u8) -> [u8; 24] {
     r
 }
 
-fn two(label: &[u8], a: [u8; 24], b: [u8; 24]) {
-    line(label, &a, &b);
+fn two(rt: &impl Print, label: &[u8], a: [u8; 24], b: [u8; 24]) -> io::Result<()> {
+    line(rt, label, &a, &b)
 }
 
-fn of_two_desks() {
+fn of_two_desks(rt: &impl Print) -> io::Result<()> {
     let early = row(5, 2, 3, 4);
     let late = row(6, 2, 3, 4);
     let last = row(5, 2, 3, 5);
-    two(b"rows alike", early, early);
-    two(b"rows, the copy's later", early, late);
-    two(b"rows, mine later", late, early);
-    two(b"rows, the copy's later at its last give", early, last);
-    two(b"rows split", late, last);
-    two(b"rows split, the other way", last, late);
+    two(rt, b"rows alike", early, early)?;
+    two(rt, b"rows, the copy's later", early, late)?;
+    two(rt, b"rows, mine later", late, early)?;
+    two(rt, b"rows, the copy's later at its last give", early, last)?;
+    two(rt, b"rows split", late, last)?;
+    two(rt, b"rows split, the other way", last, late)
 }
 
 // The numbers are compared, not their bytes: 256 is more than 255.
-fn of_numbers() {
+fn of_numbers(rt: &impl Print) -> io::Result<()> {
     let low = row(255, 2, 3, 4);
     let mut high = row(0, 2, 3, 4);
     high[1] = 1;
-    two(b"rows of 255 and 256", low, high);
+    two(rt, b"rows of 255 and 256", low, high)
 }
 
 // Of two lengths, and of lengths that no book has.
-fn of_lengths() {
+fn of_lengths(rt: &impl Print) -> io::Result<()> {
     let two = [1u8; 24];
     let three = [1u8; 32];
-    line(b"rows of 24 and 32 bytes", &two, &three);
-    line(b"rows of 32 and 24 bytes", &three, &two);
+    line(rt, b"rows of 24 and 32 bytes", &two, &three)?;
+    line(rt, b"rows of 32 and 24 bytes", &three, &two)?;
     let none = [1u8; 8];
-    line(b"rows of 8 bytes", &none, &none);
+    line(rt, b"rows of 8 bytes", &none, &none)?;
     let one = [1u8; 16];
-    line(b"rows of 16 bytes", &one, &one);
+    line(rt, b"rows of 16 bytes", &one, &one)?;
     let eight = [1u8; 72];
-    line(b"rows of 72 bytes", &eight, &eight);
+    line(rt, b"rows of 72 bytes", &eight, &eight)?;
     let nine = [1u8; 80];
-    line(b"rows of 80 bytes", &nine, &nine);
+    line(rt, b"rows of 80 bytes", &nine, &nine)?;
     let odd = [1u8; 25];
-    line(b"rows of 25 bytes", &odd, &odd);
+    line(rt, b"rows of 25 bytes", &odd, &odd)
 }
 
-pub(crate) fn run() {
-    of_two_desks();
-    of_numbers();
-    of_lengths();
+pub(crate) fn run(rt: &impl Print) -> io::Result<()> {
+    of_two_desks(rt)?;
+    of_numbers(rt)?;
+    of_lengths(rt)
 }

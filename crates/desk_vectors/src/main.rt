@@ -125,7 +125,8 @@ fn main(rt: HostRuntime) -> io::Result<()> {
     takes::run(&rt)?;
     refused::run(&rt)?;
     broken::run(&rt)?;
-    later::run();
+    later::run(&rt)?;
     news::run(&rt)?;
-    longest::run(&rt)
+    longest::run(&rt)?;
+    Ok(())
 }

@@ -102,5 +102,6 @@ pub(crate) fn run(rt: &impl Print) -> io::Result<()> {
     let copy = here_and_there(rt, copy)?;
     let own = takes(rt, b"desk 0 takes news of three rows", own, copy, 0)?;
     let own = takes(rt, b"desk 0 takes an old copy", own, fresh, 0)?;
-    takes(rt, b"desk 1 takes the taken book", copy, own, 1)
+    takes(rt, b"desk 1 takes the taken book", copy, own, 1)?;
+    Ok(())
 }

@@ -119,7 +119,8 @@ fn acts(rt: &impl Print, f: [u8; LENGTH], g: [u8; LENGTH]) -> io::Result<()> {
     tips(rt, b"g: G, desk 0 tips 1001", g, 0, 1001)?;
     tips(rt, b"g: G, desk 0 tips 1000", g, 0, 1000)?;
     gives_tip(rt, b"G, desk 0 gives tip 1 to desk 3", g, 0, 3, 1)?;
-    tips(rt, b"G, desk 3 tips 1", g, 3, 1)
+    tips(rt, b"G, desk 3 tips 1", g, 3, 1)?;
+    Ok(())
 }
 
 // The takes of cases h to j, and G taken into F by a desk that did not act, as the others did.
