@@ -1,8 +1,7 @@
 -- `list` goes over the piles of a book that was checked, and so has at most 8 desks and 32 piles.
-use Rattle.std.proofs.Common.{◌≡◌, ◌∙◌, List, ℕ, ap, sym, arith}
+use Rattle.std.proofs.Common.{◌∙◌, ap, sym, arith}
 use Rattle.rules.specs.Layout.{Head}
-use Rattle.rules.specs.Book.{book_answer}
-use Rattle.rules.proofs.File.Readable.{BookFacts, book_facts}
+use Rattle.rules.proofs.File.Readable.{book_facts}
 use Rattle.layout.proofs.Positions.{head_there}
 use Rattle.lister.proofs.list.Goals as goal
 

@@ -1,6 +1,5 @@
 -- `list_desks` goes over at most 8 desks.
 use Rattle.std.proofs.Common.{◌-◌, ◌≤◌}
-use Rattle.rules.specs.Layout.{desk_limit}
 use Rattle.lister.proofs.list_desks.Given as goal
 
 abbrev pub invariant-loop-i : goal.invariant-loop-i

@@ -67,5 +67,5 @@ pub returns : goal.returns
 returns c =
     let at = goal.at.returns c in
     let both = entered _ (asked at.After-seek-found) _ (told at.After-seek-found) c.if-refusal-ne0.false c.column.ensures (placed at.After-cell_at) c.get4-tally.ensures
-        (sym (answered at.After-act_refusal-answer) ∙ c.if-answer-ne0.false) c.put4.ensures.1 in
+    (sym (answered at.After-act_refusal-answer) ∙ c.if-answer-ne0.false) c.put4.ensures.1 in
     record { answer = both.0; book = both.1 }

@@ -1,6 +1,5 @@
 -- `put_entries` reads one entry after the other where the layout has it, and fills both lists from the front.
 use native.Mathlib.Omega.{arith}
-use Rattle.rules.specs.Layout.{pile_number, position}
 use Rattle.pitbook.proofs.Filling.{none_filled, next_filled, all_filled}
 use Rattle.pitbook.proofs.contents.put_entries.Goals as goal
 
