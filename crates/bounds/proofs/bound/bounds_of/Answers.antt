@@ -1,6 +1,6 @@
 -- `bounds_of` stores one desk's bound after the other.
 use native.Mathlib.Omega.{arith}
-use mathlib.Core.Path.{◌≡◌, refl}
+use mathlib.Core.Path.{refl}
 use borrow.Author.Rules.{rules}
 use Rattle.rules.specs.Loops.{list, flat}
 use Rattle.rules.specs.Layout.{desk_limit}
@@ -11,12 +11,6 @@ pub loop-i-init : goal.loop-i-init
 unfolding list flat
 loop-i-init c = (search rules, refl)
 
-pub bound_of-requires : goal.bound_of-requires
-bound_of-requires c = c.requires.1 c.loop-i.i (omega arith)
-
 pub loop-i-preserved : goal.loop-i-preserved
 loop-i-preserved c =
     (search rules, rw (c.bound_of.ensures, c.loop-i.invariant.1) (padded_next desk_limit c.loop-i.i _ (omega (arith, c.requires.0))))
-
-pub returns : goal.returns
-returns c = let done : c.loop-i.i ≡ c.args.n = omega arith in rw done at c.loop-i.invariant.1

@@ -60,9 +60,6 @@ returns-then-answer-ne0 c =
     let both = entry_refused _ (asked at.After-seek-found) _ (answered at.After-act_refusal-answer) c.if-answer-ne0.true in
     record { answer = both.0; book = both.1 }
 
-pub overflow_add-tally : goal.overflow_add-tally
-overflow_add-tally c = search (rules, c.act_refusal-answer.ensures.room c.if-answer-ne0.false)
-
 pub returns : goal.returns
 returns c =
     let at = goal.at.returns c in
