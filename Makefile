@@ -19,7 +19,7 @@ RUST_FLAGS = --offline --locked --manifest-path bindings/rust/Cargo.toml
 
 .PHONY: test run contracts listings lib test-c test-rust install bench fuzz
 
-# Every crate is proved from nothing, every must-fail edit is tried, every program is run; then what is compiled of these sources is tested from outside. An edit
+# Every crate is proved, every must-fail edit is tried, every program is run; then what is compiled of these sources is tested from outside. An edit
 # that could not be tried fails too. The last line is the verdict: N passed, 0 failed, told again where the tests have passed too.
 test:
 	told=$$(mktemp -d); trap 'rm -rf "$$told"' EXIT; \

@@ -1,8 +1,8 @@
 #!/usr/bin/env python3
-"""Respells the repository's own definitions and lemmas, once, after port.py: words in snake case, types and modules as they are.
+"""Respelled the repository's own definitions and lemmas, once, right after port.py: words in snake case, types and modules as they are. Kept as a record: it does not run again.
 
 Only names that the files of specs/ and proofs/ declare are touched, in .antt and .rt files outside comments and texts, in comments and pages between
-backticks, and in must-fail edits. Run at the top: tools/spelling.py, or tools/spelling.py --list to see the names alone.
+backticks, and in must-fail edits. At the top: tools/spelling.py, or tools/spelling.py --list to see the names alone.
 """
 import pathlib
 import re
@@ -113,6 +113,8 @@ def edits(text, table):
 
 
 def main():
+    if (ROOT / "docs" / "PORT.md").exists():
+        sys.exit("spelling: the names are respelled already (docs/PORT.md)")
     table = mapping()
     if "--list" in sys.argv:
         for old, new in sorted(table.items()):

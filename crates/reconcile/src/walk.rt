@@ -36,8 +36,8 @@ fn same_ticket(t: Ticket, u: Ticket) -> bool
 // The end of a list is above every number, so that the rest of the other list goes the same way. A refused ticket stands there as number 0 and is passed at
 // once: its list is walked to the end all the same, since what comes first is told only there, and the counts are then not handed back.
 pub(crate) fn step(bridge: &[u8], desk: &[u8], walk: Walk) -> Walk
-    requires walked_2 { Walked bridge.now desk.now walk }
-    requires at_in_bounds { walk.bridge.at + walk.desk.at < length bridge.now + length desk.now }
+    requires walked_so_far { Walked bridge.now desk.now walk }
+    requires some_left { walk.bridge.at + walk.desk.at < length bridge.now + length desk.now }
     ensures walked { Walked bridge.now desk.now result }
     ensures further { walk.bridge.at + walk.desk.at < result.bridge.at + result.desk.at }
 {

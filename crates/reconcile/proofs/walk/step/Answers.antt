@@ -12,12 +12,12 @@ use Rattle.reconcile.proofs.walk.step.Goals.{Else-walk-2}
 -- the bridge's number comes next
 pub advance-next-requires : goal.advance-next-requires
 advance-next-requires c =
-    let p = c.requires.walked_2 in
+    let p = c.requires.walked_so_far in
     (p.of_bridge.standing, own_inside p.of_bridge p.of_desk c.if-walk.true)
 
 pub returns-then-walk : goal.returns-then-walk
 returns-then-walk c =
-    let p = c.requires.walked_2 in
+    let p = c.requires.walked_so_far in
     let less = c.if-walk.true in
     let e = c.advance-next.ensures in
     record {
@@ -28,12 +28,12 @@ returns-then-walk c =
 -- the desk's does
 pub advance-next-requires-then-walk-2 : goal.advance-next-requires-then-walk-2
 advance-next-requires-then-walk-2 c =
-    let p = c.requires.walked_2 in
+    let p = c.requires.walked_so_far in
     (p.of_desk.standing, own_inside p.of_desk p.of_bridge c.if-walk-2.true)
 
 pub returns-then-walk-2 : goal.returns-then-walk-2
 returns-then-walk-2 c =
-    let p = c.requires.walked_2 in
+    let p = c.requires.walked_so_far in
     let less = c.if-walk-2.true in
     let e = c.advance-next-then-walk-2.ensures in
     record {
@@ -46,27 +46,27 @@ equal : (c : Else-walk-2) → c.args.walk.bridge.head.number ≡ c.args.walk.des
 equal c = omega arith
 
 at_bridge : (c : Else-walk-2) → c.args.walk.bridge.at < length c.args.bridge.now
-at_bridge c = let p = c.requires.walked_2 in both_inside p.of_bridge p.of_desk (equal c) c.requires.at_in_bounds
+at_bridge c = let p = c.requires.walked_so_far in both_inside p.of_bridge p.of_desk (equal c) c.requires.some_left
 
 at_desk : (c : Else-walk-2) → c.args.walk.desk.at < length c.args.desk.now
-at_desk c = let p = c.requires.walked_2 in both_inside p.of_desk p.of_bridge (sym (equal c)) (omega arith)
+at_desk c = let p = c.requires.walked_so_far in both_inside p.of_desk p.of_bridge (sym (equal c)) (omega arith)
 
 pub advance-next-requires-2 : goal.advance-next-requires-2
-advance-next-requires-2 c = (c.requires.walked_2.of_bridge.standing, at_bridge (goal.at.advance-next-requires-2 c).Else-walk-2)
+advance-next-requires-2 c = (c.requires.walked_so_far.of_bridge.standing, at_bridge (goal.at.advance-next-requires-2 c).Else-walk-2)
 
 pub advance-next-requires-3 : goal.advance-next-requires-3
-advance-next-requires-3 c = (c.requires.walked_2.of_desk.standing, at_desk (goal.at.advance-next-requires-3 c).Else-walk-2)
+advance-next-requires-3 c = (c.requires.walked_so_far.of_desk.standing, at_desk (goal.at.advance-next-requires-3 c).Else-walk-2)
 
 pub returns-then-same_ticket : goal.returns-then-same_ticket
 returns-then-same_ticket c =
     let at = (goal.at.returns-then-same_ticket c).Else-walk-2 in
-    let both = past_both c.requires.walked_2 (at_bridge at) (at_desk at) (equal at) true (sym c.if-same_ticket.ensures)
+    let both = past_both c.requires.walked_so_far (at_bridge at) (at_desk at) (equal at) true (sym c.if-same_ticket.ensures)
     c.advance-next-2.ensures c.advance-next-3.ensures in
     record { walked = both.0; further = both.1 }
 
 pub returns : goal.returns
 returns c =
     let at = (goal.at.returns c).Else-walk-2 in
-    let both = past_both c.requires.walked_2 (at_bridge at) (at_desk at) (equal at) false (sym c.if-same_ticket.ensures)
+    let both = past_both c.requires.walked_so_far (at_bridge at) (at_desk at) (equal at) false (sym c.if-same_ticket.ensures)
     c.advance-next-2.ensures c.advance-next-3.ensures in
     record { walked = both.0; further = both.1 }
