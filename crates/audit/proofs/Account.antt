@@ -5,21 +5,21 @@ use native.Mathlib.Numerals.{add-one}
 use native.Mathlib.Omega.{arith}
 use mathlib.Core.Path.{◌≡◌, refl, ap, ap₂, sym, ◌∙◌}
 use mathlib.Core.Bool.{Bool, true, false}
-use mathlib.Core.List.{List}
 use lib.ListN.{get_or}
 use lib.Dec.{leb}
 use borrow.Author.Tests.{le-leb, lt-leb}
 use Rattle.rules.specs.Loops.{◌and◌, every}
 use Rattle.rules.specs.Pile.{Side, draw, tip, other, both_sides, Pile, credit, debit}
 use Rattle.rules.proofs.Loops.Logic.{and_true, and_right_fails}
+use Rattle.audit.specs.declared.totals.SideTotals.{SideTotals}
 use Rattle.audit.specs.Inner.{SideRead}
 
-module _ {p : Pile} {s : Side} {n : ℕ} {totals made : List ℕ} (read : SideRead p s n n totals made) (i : ℕ) (i<n : i < n) where
-  pub credit_at : {x : ℕ} → x ≡ p.earned s i → get_or totals i 0 + x ≡ credit n p s i
+module _ {p : Pile} {s : Side} {n : ℕ} {totals : SideTotals} (read : SideRead p s n n totals) (i : ℕ) (i<n : i < n) where
+  pub credit_at : {x : ℕ} → x ≡ p.earned s i → get_or totals.received i 0 + x ≡ credit n p s i
   unfolding credit
   credit_at e = omega (arith, read.received i i<n)
 
-  pub debit_at : {x : ℕ} → x ≡ p.earned (other s) i → get_or made i 0 + x ≡ debit n p s i
+  pub debit_at : {x : ℕ} → x ≡ p.earned (other s) i → get_or totals.given i 0 + x ≡ debit n p s i
   unfolding debit
   debit_at e = ap₂ ◌+◌ (read.given i i<n) e
 

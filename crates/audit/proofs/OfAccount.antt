@@ -3,18 +3,17 @@
 use Prim.Native.Nat.{ℕ, ◌+◌, ◌≤◌, ◌<◌}
 use native.Mathlib.Omega.{arith}
 use mathlib.Core.Path.{◌≡◌, sym, ◌∙◌}
-use mathlib.Core.Logic.{◌≢◌}
 use mathlib.Core.Bool.{true, false}
 use mathlib.Core.List.{List}
-use lib.ListN.{length, replicate}
-use borrow.Author.Tests.{lt-ltb, le-ltb, le-leb, ltb-false}
+use lib.ListN.{length}
+use borrow.Author.Tests.{lt-ltb, le-ltb, le-leb, leb-false, ltb-false}
 use Rattle.rules.specs.Loops.{between, list}
 use Rattle.rules.specs.Refusals.{◌when◌, ◌or_else◌}
 use Rattle.rules.specs.Pile.{Side, Pile, rights, tonnage, pile_answer, top_limit}
 use Rattle.rules.specs.Layout.{desk_limit, body_length, body_view}
 use Rattle.rules.specs.Record.{padded}
-use Rattle.rules.proofs.Loops.Logic.{in_range, and_both}
-use Rattle.rules.proofs.Loops.Refusals.{when_done, when_not_done, or_else_first, or_else_rest, when_accepted, when_refused}
+use Rattle.rules.proofs.Loops.Logic.{in_range, and_both, and_left_holds}
+use Rattle.rules.proofs.Loops.Refusals.{when_done, when_not_done, or_else_first, or_else_rest, when_accepted}
 use Rattle.rules.proofs.Pile.Facts.{PileFacts, facts}
 use Rattle.rules.proofs.Pile.Tonnage.{tonnage_within, rights_most}
 use Rattle.rules.proofs.Record.Padded.{padded_cong}
@@ -34,23 +33,13 @@ module _ (n at : ℕ) (b : List ℕ) where
     unfolding between
     ranged = and_both (le-leb _ _ desks.0) (le-leb _ _ desks.1)
 
-    pub account_3 : length b < at + body_length n → 3 ≡ account_answer n at b
+    pub account_3 : body_there n at (length b) ≡ false → 3 ≡ account_answer n at b
+    unfolding account_answer body_there ◌when◌ ◌or_else◌
+    account_3 absent = rw (ranged, lt-ltb _ _ (leb-false _ _ (and_left_holds ranged _ ∙ absent)))
+
+    pub account_judged : body_there n at (length b) ≡ true → pile_answer n (body_view n b at) ≡ account_answer n at b
     unfolding account_answer ◌when◌ ◌or_else◌
-    account_3 short = rw (ranged, lt-ltb _ _ short)
-
-    pub account_judged : at + body_length n ≤ length b → pile_answer n (body_view n b at) ≡ account_answer n at b
-    unfolding account_answer ◌when◌ ◌or_else◌
-    account_judged there = rw (ranged, le-ltb _ _ there)
-
-  -- beside a refusal all is 0
-  module _ {m : ℕ} (is : m ≡ account_answer n at b) (d : m ≢ 0) where
-    pub no_number : (f : Pile → ℕ) → 0 ≡ account_number f n at b
-    unfolding account_number
-    no_number f = sym (when_refused _ _ _ (λ z. d (is ∙ z)))
-
-    pub no_rights : (s : Side) → replicate desk_limit 0 ≡ account_rights s n at b
-    unfolding account_rights
-    no_rights s = sym (when_refused _ _ _ (λ z. d (is ∙ z)))
+    account_judged there = rw (ranged, le-ltb _ _ (there_within there).within)
 
   -- where there is none
   module _ (passed : account_answer n at b ≡ 0) where

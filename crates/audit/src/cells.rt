@@ -13,7 +13,7 @@ pub(crate) fn word(body: &[u8], at: usize) -> u64
     requires { at + 4 ≤ length body.now }
     ensures { (result ≡ number 4 body.now at) × (result < 4294967296) }
 {
-    get4(&body[at..at + NUMBER], 0) as u64
+    u64::from(get4(&body[at..at + NUMBER], 0))
 }
 
 // The number of a row and a column.

@@ -7,70 +7,49 @@ mod judge;
 mod rights;
 mod shares;
 mod tallies;
+mod totals;
 
 ghost use Rattle.std.specs.Prelude.{◌≡◌};
 ghost use Rattle.rules.specs.Pile.{side_of};
 ghost use Rattle.audit.specs.Audits.{shape_answer, bodies_answer, rights_in, tonnage_in};
+ghost use Rattle.refusal.specs.Answers.{answered};
 
 use cells::cell;
 use judge::body_answer;
 use layout::cells::{earned_column, side_column};
 use layout::lengths::body_length;
-use layout::limits::{DESKS, PILES};
-use rights::{body_there, left_of, less};
+use layout::limits::PILES;
+use refusal::Refusal;
+use rights::{body_there, left_of};
+use totals::Totals;
 
 // 2 for sizes, 3 where there are more or less bytes than p bodies from a position on.
-fn shape_answer(length: usize, from: usize, n: u8, p: usize) -> u8
-    ensures { result ≡ shape_answer n p from length }
+fn shape_answer(length: usize, from: usize, n: u8, p: usize) -> Result<(), Refusal>
+    ensures { answered result ≡ shape_answer n p from length }
 {
     let size = body_length(n);
-    if size == 0 {
-        return 2;
+    if size == 0 || PILES < p {
+        return Err(Refusal::HeadWrong);
     }
-    if PILES < p {
-        return 2;
+    if length < from || length - from != p * size {
+        return Err(Refusal::LengthWrong);
     }
-    if length < from {
-        return 3;
-    }
-    if length - from != p * size {
-        return 3;
-    }
-    0
+    Ok(())
 }
 
 // One pass over p bodies from a position on, with nothing behind them: refused with 2 for sizes, 3 for the length, or as the first body that is, with 5, 6
 // or 7.
-pub fn check_bodies(bytes: &[u8], from: usize, n: u8, p: usize) -> u8
-    ensures { result ≡ bodies_answer n p from bytes.now }
+pub fn check_bodies(bytes: &[u8], from: usize, n: u8, p: usize) -> Result<(), Refusal>
+    ensures { answered result ≡ bodies_answer n p from bytes.now }
 {
-    let shape = shape_answer(bytes.len(), from, n, p);
-    if shape != 0 {
-        return shape;
-    }
+    shape_answer(bytes.len(), from, n, p)?;
     let size = body_length(n);
-    let mut draws = [0u64; DESKS];
-    let mut draw_given = [0u64; DESKS];
-    let mut tips = [0u64; DESKS];
-    let mut tip_given = [0u64; DESKS];
-    let mut at = from;
-    let mut k = 0;
-    while k < p {
-        let answer = body_answer(
-            &bytes[at..],
-            n,
-            &mut draws,
-            &mut draw_given,
-            &mut tips,
-            &mut tip_given,
-        );
-        if answer != 0 {
-            return answer;
-        }
-        at += size;
-        k += 1;
+    let mut totals = Totals::new();
+    for k in 0..p {
+        let at = from + k * size;
+        body_answer(&bytes[at..], n, &mut totals)?;
     }
-    0
+    Ok(())
 }
 
 // What a desk's rights of a side come to in the body at a position, 0 for draw, any other for tip. The body is not judged: where the desk's debit is above its
@@ -78,16 +57,10 @@ pub fn check_bodies(bytes: &[u8], from: usize, n: u8, p: usize) -> u8
 pub fn rights_in(bytes: &[u8], at: usize, n: u8, side: u8, desk: u8) -> u64
     ensures { result ≡ rights_in (side_of side) n at bytes.now desk }
 {
-    if !body_there(bytes.len(), at, n) {
+    if n <= desk || !body_there(bytes.len(), at, n) {
         return 0;
     }
-    if n <= desk {
-        return 0;
-    }
-    if side == 0 {
-        return left_of(&bytes[at..], n, desk, 0);
-    }
-    left_of(&bytes[at..], n, desk, 1)
+    left_of(&bytes[at..], n, desk, side)
 }
 
 // What the tonnage comes to in the body at a position. The body is not judged: where more was drawn than it ever had, as in no lawful body, that is 0. It is 0
@@ -101,11 +74,9 @@ pub fn tonnage_in(bytes: &[u8], at: usize, n: u8) -> u64
     let body = &bytes[at..];
     let mut had = cell(body, n, 0, earned_column(0));
     let mut drawn: u64 = 0;
-    let mut i: u8 = 0;
-    while i < n {
+    for i in 0..n {
         had = had + cell(body, n, 0, side_column(n, 0, i)) + cell(body, n, i + 1, earned_column(0));
         drawn = drawn + cell(body, n, i + 1, earned_column(1));
-        i += 1;
     }
-    less(had, drawn)
+    had.saturating_sub(drawn)
 }

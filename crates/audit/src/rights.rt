@@ -13,39 +13,22 @@ pub(crate) fn body_there(length: usize, at: usize, n: u8) -> bool
     ensures { result ≡ body_there n at length }
 {
     let size = body_length(n);
-    if size == 0 {
-        return false;
-    }
-    if length < at {
-        return false;
-    }
-    size <= length - at
+    size != 0 && at <= length && size <= length - at
 }
 
-// What a debit leaves of a credit.
-pub(crate) fn less(credit: u64, debit: u64) -> u64
-    ensures { result ≡ credit - debit }
-{
-    if credit < debit {
-        return 0;
-    }
-    credit - debit
-}
-
-// The rights of desk i: its share, what it earned and what it got, less what it gave and spent.
+// The rights of desk i, 0 for draw, any other for tip: its share, what it earned and what it got, less what it gave and spent.
 pub(crate) fn left_of(body: &[u8], n: u8, i: u8, side: u8) -> u64
-    requires { (side ≤ 1) × (i < n) × BodyWithin n 0 body.now }
+    requires { (i < n) × BodyWithin n 0 body.now }
     ensures { result ≡ rights n (first_body n body.now) (side_of side) i }
 {
     let own = i + 1;
+    let other = u8::from(side == 0);
     let mut credit = cell(body, n, 0, side_column(n, side, i))
         + cell(body, n, own, earned_column(side));
-    let mut debit = cell(body, n, own, earned_column(1 - side));
-    let mut j: u8 = 0;
-    while j < n {
+    let mut debit = cell(body, n, own, earned_column(other));
+    for j in 0..n {
         credit = credit + cell(body, n, j + 1, side_column(n, side, i));
         debit = debit + cell(body, n, own, side_column(n, side, j));
-        j += 1;
     }
-    less(credit, debit)
+    credit.saturating_sub(debit)
 }

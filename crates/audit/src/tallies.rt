@@ -1,5 +1,4 @@
-// The rows of a body, each read once for both sides: `draws` and `tips` have a total for each desk, its share and then what it got, and `draw_given` and
-// `tip_given` what it gave.
+// The rows of a body, each read once for both sides.
 ghost use Rattle.std.specs.Prelude.{◌≡◌, suc, ◌+◌, ◌≤◌, leb};
 ghost use Rattle.rules.specs.Loops.{sum, every};
 ghost use Rattle.rules.specs.Numbers.{number};
@@ -9,82 +8,64 @@ ghost use Rattle.layout.specs.Inner.{BodyWithin, first_body};
 ghost use Rattle.audit.specs.Inner.{RowFits, RowAdded, SideRead};
 
 use crate::cells::cell;
+use crate::totals::Totals;
 use layout::cells::{columns_of, side_column};
-use layout::limits::TALLY_LIMIT;
+use layout::limits::{DESKS, TALLY_LIMIT};
 
 // Adds what a row gives of a side, each number to its desk's total, and returns what they come to. Nothing leaves the loop, so that the compiler does
 // several at once.
-fn add_row(body: &[u8], n: u8, row: u8, side: u8, totals: &mut [u64]) -> u64
+fn add_row(body: &[u8], n: u8, row: u8, side: u8, totals: &mut [u64; DESKS]) -> u64
     requires { RowFits n row body.now totals.old }
     ensures sum { (result ≡ sum n (λ j. number 4 body.now (cell_at n row (column n (side_of side) j)))) × (result ≤ 34359738368) }
     ensures totals { RowAdded n (λ j. number 4 body.now (cell_at n row (column n (side_of side) j))) totals.old totals.new }
 {
     let mut sum: u64 = 0;
-    let mut j: u8 = 0;
-    while j < n {
+    for j in 0..n {
         let x = cell(body, n, row, side_column(n, side, j));
-        let place = j as usize;
-        sum = sum + x;
-        totals[place] = totals[place] + x;
-        j += 1;
+        sum += x;
+        totals[usize::from(j)] += x;
     }
     sum
 }
 
 // Reads n rows, and returns what the desks gave themselves.
-fn read_rows(
-    body: &[u8],
-    n: u8,
-    draws: &mut [u64],
-    draw_given: &mut [u64],
-    tips: &mut [u64],
-    tip_given: &mut [u64],
-) -> u64
+fn read_rows(body: &[u8], n: u8, totals: &mut Totals) -> u64
     requires body { BodyWithin n 0 body.now }
-    requires draws { SideRead (first_body n body.now) draw n 0 draws.old draw_given.old }
-    requires tips { SideRead (first_body n body.now) tip n 0 tips.old tip_given.old }
+    requires draws { SideRead (first_body n body.now) draw n 0 totals.old.draw }
+    requires tips { SideRead (first_body n body.now) tip n 0 totals.old.tip }
     ensures own { result ≡ sum n (λ i. (first_body n body.now).give draw i i + (first_body n body.now).give tip i i) }
-    ensures draws { SideRead (first_body n body.now) draw n n draws.new draw_given.new }
-    ensures tips { SideRead (first_body n body.now) tip n n tips.new tip_given.new }
+    ensures draws { SideRead (first_body n body.now) draw n n totals.new.draw }
+    ensures tips { SideRead (first_body n body.now) tip n n totals.new.tip }
 {
     let mut own: u64 = 0;
-    let mut i: u8 = 0;
-    while i < n {
-        let place = i as usize;
-        draw_given[place] = add_row(body, n, i + 1, 0, draws);
-        tip_given[place] = add_row(body, n, i + 1, 1, tips);
+    for i in 0..n {
+        let place = usize::from(i);
+        totals.draw.given[place] = add_row(body, n, i + 1, 0, &mut totals.draw.received);
+        totals.tip.given[place] = add_row(body, n, i + 1, 1, &mut totals.tip.received);
         own = own
             + cell(body, n, i + 1, side_column(n, 0, i))
             + cell(body, n, i + 1, side_column(n, 1, i));
-        i += 1;
     }
     own
 }
 
 // The same, with the number of desks written out, so that the compiler lays out a loop for each. Not for all: with calls for all eight numbers the output
 // tests as it runs whether lists and bytes overlap, and does nothing several at a time.
-pub(crate) fn read_rows_of(
-    body: &[u8],
-    n: u8,
-    draws: &mut [u64],
-    draw_given: &mut [u64],
-    tips: &mut [u64],
-    tip_given: &mut [u64],
-) -> u64
+pub(crate) fn read_rows_of(body: &[u8], n: u8, totals: &mut Totals) -> u64
     requires body { BodyWithin n 0 body.now }
-    requires draws { SideRead (first_body n body.now) draw n 0 draws.old draw_given.old }
-    requires tips { SideRead (first_body n body.now) tip n 0 tips.old tip_given.old }
+    requires draws { SideRead (first_body n body.now) draw n 0 totals.old.draw }
+    requires tips { SideRead (first_body n body.now) tip n 0 totals.old.tip }
     ensures own { result ≡ sum n (λ i. (first_body n body.now).give draw i i + (first_body n body.now).give tip i i) }
-    ensures draws { SideRead (first_body n body.now) draw n n draws.new draw_given.new }
-    ensures tips { SideRead (first_body n body.now) tip n n tips.new tip_given.new }
+    ensures draws { SideRead (first_body n body.now) draw n n totals.new.draw }
+    ensures tips { SideRead (first_body n body.now) tip n n totals.new.tip }
 {
     match n {
-        1 => read_rows(body, 1, draws, draw_given, tips, tip_given),
-        2 => read_rows(body, 2, draws, draw_given, tips, tip_given),
-        3 => read_rows(body, 3, draws, draw_given, tips, tip_given),
-        4 => read_rows(body, 4, draws, draw_given, tips, tip_given),
-        8 => read_rows(body, 8, draws, draw_given, tips, tip_given),
-        _ => read_rows(body, n, draws, draw_given, tips, tip_given),
+        1 => read_rows(body, 1, totals),
+        2 => read_rows(body, 2, totals),
+        3 => read_rows(body, 3, totals),
+        4 => read_rows(body, 4, totals),
+        8 => read_rows(body, 8, totals),
+        _ => read_rows(body, n, totals),
     }
 }
 
@@ -94,12 +75,10 @@ fn row_within(body: &[u8], n: u8, row: u8) -> bool
     ensures { result ≡ every (columns n) (λ c. leb (number 4 body.now (cell_at n row c)) tally_limit) }
 {
     let all = columns_of(n);
-    let mut c: u16 = 0;
-    while c < all {
+    for c in 0..all {
         if TALLY_LIMIT < cell(body, n, row, c) {
             return false;
         }
-        c += 1;
     }
     true
 }
@@ -109,12 +88,10 @@ pub(crate) fn rows_within(body: &[u8], n: u8) -> bool
     requires { BodyWithin n 0 body.now }
     ensures { result ≡ every n (λ i. every (columns n) (λ c. leb (number 4 body.now (cell_at n (suc i) c)) tally_limit)) }
 {
-    let mut i: u8 = 0;
-    while i < n {
+    for i in 0..n {
         if !row_within(body, n, i + 1) {
             return false;
         }
-        i += 1;
     }
     true
 }

@@ -1,12 +1,16 @@
 -- The lines of the table for a book's bytes, each from what leads to it.
 -- Assumes nothing.
+use Rattle.std.proofs.Common.{Option, Some, None, IfSome, IfNone, IfOk, ok_or}
 use Prim.Native.Nat.{ℕ, ◌≤◌, ◌<◌}
+use native.Mathlib.Omega.{arith}
 use mathlib.Core.Path.{◌≡◌}
 use mathlib.Core.Logic.{◌≢◌}
 use mathlib.Core.Bool.{true, false}
 use mathlib.Core.List.{List}
 use lib.ListN.{length}
 use borrow.Author.Tests.{lt-ltb, le-ltb, eq-eqb, ne_eqb}
+use Rattle.refusal.specs.declared.Refusal.TheVariants.{PileAbsent}
+use Rattle.refusal.specs.Answers.{answered}
 use Rattle.rules.specs.Refusals.{◌when◌, ◌or_else◌, first}
 use Rattle.rules.specs.Pile.{pile_answer}
 use Rattle.rules.specs.Layout.{head_of, desks, piles, book_length, pile_of, Sizes}
@@ -62,3 +66,13 @@ module _ (b : List ℕ) (i number : ℕ) where
       pub desk_0 : place b number ≢ piles b → 0 ≡ desk_answer i b number
       unfolding desk_answer absent ◌when◌ ◌or_else◌
       desk_0 d = rw (passed, lt-ltb _ _ desk, ne_eqb _ _ d)
+
+      -- by where the pile's number was found in the contents
+      pub desk_by_place : (o : Option ℕ) → IfSome o (λ k. (k < piles b) × (k ≡ place b number)) → IfNone o (place b number ≡ piles b)
+          → answered (ok_or o PileAbsent) ≡ desk_answer i b number
+      desk_by_place (Some k) found absent = desk_0 (λ e. let l = found.0 in let is = found.1 in absurd (omega arith))
+      desk_by_place None found absent = desk_10 absent
+
+      pub placed_there : (o : Option ℕ) → IfSome o (λ k. (k < piles b) × (k ≡ place b number)) → IfOk (ok_or o PileAbsent) (λ k. k ≡ place b number)
+      placed_there (Some k) found = found.1
+      placed_there None found = tt

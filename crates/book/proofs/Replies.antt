@@ -18,41 +18,27 @@ pub record HasPlace (b : List ℕ) (k : ℕ) : Type 0 where
   pub readable : book_answer b ≡ 0
   pub below : k < piles b
 
-module _ (i : ℕ) (b : List ℕ) (number : ℕ) {m : ℕ} (answer : m ≡ desk_answer i b number) where
-  -- the pile was not found
-  module _ (d : m ≢ 0) where
-    not_found : desk_answer i b number ≢ 0
-    not_found z = d (answer ∙ z)
+module _ (i : ℕ) (b : List ℕ) (number : ℕ) (answer : 0 ≡ desk_answer i b number) where
+  found : desk_answer i b number ≡ 0
+  found = sym answer
 
-    pub start_nowhere : 0 ≡ desk_start i b number
-    unfolding desk_start
-    start_nowhere = sym (when_refused _ _ _ not_found)
+  pub count_at : desks b ≡ desk_count i b number
+  count_at = sym (found_count i b number found)
 
-    pub of_no_desks : 0 ≡ desk_count i b number
-    unfolding desk_count
-    of_no_desks = sym (when_refused _ _ _ not_found)
+  -- at place k
+  module _ {k : ℕ} (at : k ≡ place b number) where
+    pub has_place : HasPlace b k
+    has_place =
+        record { readable = found_readable i b number found; below = subst⁻¹ (λ (k : ℕ). k < piles b) at (found_place i b number found) }
 
-  -- the pile was found
-  module _ (z : m ≡ 0) where
-    found : desk_answer i b number ≡ 0
-    found = sym answer ∙ z
-
-    -- at place k
-    module _ {k : ℕ} (at : k ≡ place b number) where
-      pub has_place : HasPlace b k
-      has_place =
-          record { readable = found_readable i b number found; below = subst⁻¹ (λ (k : ℕ). k < piles b) at (found_place i b number found) }
-
-      pub start_at : {start : ℕ} → start ≡ body_at (head_of b) k → start ≡ desk_start i b number
-      start_at is = is ∙ ap (body_at (head_of b)) at ∙ sym (found_start i b number found)
-
-      pub count_at : desks b ≡ desk_count i b number
-      count_at = sym (found_count i b number found)
+    pub start_at : {start : ℕ} → start ≡ body_at (head_of b) k → start ≡ desk_start i b number
+    start_at is = is ∙ ap (body_at (head_of b)) at ∙ sym (found_start i b number found)
 
 module _ (b : List ℕ) (number : ℕ) {m : ℕ} (answer : m ≡ desk_answer 0 b number) where
   pub fetch_is : m ≡ fetch_answer b number
   fetch_is = answer ∙ desk_0_fetch b number
 
+  -- the pile was not found
   module _ (d : m ≢ 0) where
     not_fetched : fetch_answer b number ≢ 0
     not_fetched z = d (fetch_is ∙ z)
@@ -64,15 +50,15 @@ module _ (b : List ℕ) (number : ℕ) {m : ℕ} (answer : m ≡ desk_answer 0 b
     unfolding body_start
     start_refused = sym (when_refused _ _ _ not_fetched)
 
-  module _ (z : m ≡ 0) where
-    fetchable : fetch_answer b number ≡ 0
-    fetchable = sym fetch_is ∙ z
+-- the pile was found at place k
+module _ (b : List ℕ) (number : ℕ) (answer : 0 ≡ desk_answer 0 b number) {k : ℕ} (at : k ≡ place b number) where
+  fetchable : fetch_answer b number ≡ 0
+  fetchable = sym (fetch_is b number answer)
 
-    module _ {k : ℕ} (at : k ≡ place b number) where
-      pub part_found : {from size : ℕ} → from ≡ position b k → size ≡ body_length (desks b) → part from size b ≡ body_part b number
-      unfolding body_part
-      part_found from size = rw (from, size, at) (sym (when_accepted _ _ _ fetchable))
+  pub part_found : {from size : ℕ} → from ≡ position b k → size ≡ body_length (desks b) → part from size b ≡ body_part b number
+  unfolding body_part
+  part_found from size = rw (from, size, at) (sym (when_accepted _ _ _ fetchable))
 
-      pub start_found : {from : ℕ} → from ≡ position b k → from ≡ body_start b number
-      unfolding body_start
-      start_found from = rw (from, at) (sym (when_accepted _ _ _ fetchable))
+  pub start_found : {from : ℕ} → from ≡ position b k → from ≡ body_start b number
+  unfolding body_start
+  start_found from = rw (from, at) (sym (when_accepted _ _ _ fetchable))

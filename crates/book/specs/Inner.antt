@@ -1,13 +1,18 @@
 -- What the functions that read a book ask of its bytes: that a part lies within them, or that they have a book's size.
 -- Assumes nothing.
-use Rattle.std.specs.Prelude.{ℕ, ◌+◌, ◌≤◌, ◌<◌, ◌≡◌, List, length}
+use Rattle.std.specs.Prelude.{ℕ, ◌+◌, ◌≤◌, ◌<◌, ◌≡◌, List, length, eqb}
+use Rattle.rules.specs.Loops.{index}
 use Rattle.rules.specs.Pile.{pile_answer}
-use Rattle.rules.specs.Layout.{Sizes, Head, entry_at, book_length, body_view, desks}
+use Rattle.rules.specs.Layout.{Sizes, Head, entry_at, book_length, body_view, desks, pile_number}
 use Rattle.layout.specs.Inner.{BodyWithin}
 
 -- the entries of p piles
 pub record EntriesWithin (p : ℕ) (b : List ℕ) : Type 0 where
   pub within : (k : ℕ) → k < p → entry_at k + 6 ≤ length b
+
+-- where a pile number stands in the contents of p piles; p where it is absent
+abbrev pub place_among : ℕ → List ℕ → ℕ → ℕ
+place_among p b number = index p (λ k. eqb (pile_number b k) number)
 
 -- the contents that a head says
 pub record Contents (h : Head) (b : List ℕ) : Type 0 where

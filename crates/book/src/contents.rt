@@ -1,10 +1,8 @@
 // The contents of a book: checked against its head, and searched for a pile.
-ghost use Rattle.std.specs.Prelude.{◌≡◌, eqb};
-ghost use Rattle.rules.specs.Loops.{index};
-ghost use Rattle.rules.specs.Layout.{pile_number};
+ghost use Rattle.std.specs.Prelude.{◌≡◌, ◌<◌, IfSome, IfNone};
 ghost use Rattle.rules.specs.Book.{contents_sound};
 ghost use Rattle.layout.specs.Positions.{as_head};
-ghost use Rattle.book.specs.Inner.{EntriesWithin, Contents};
+ghost use Rattle.book.specs.Inner.{EntriesWithin, Contents, place_among};
 
 use layout::contents::{entry_number, entry_position};
 use layout::head::{ENTRY, Head, entry_at, front_length};
@@ -18,9 +16,7 @@ pub(crate) fn contents_sound(book: &[u8], head: Head) -> bool
     let size = body_length(head.desks);
     let mut expected = front_length(head);
     let mut last: u16 = 0;
-    let p = head.piles;
-    let mut k: u8 = 0;
-    while k < p {
+    for k in 0..head.piles {
         let at = entry_at(k);
         let entry = &book[at..at + ENTRY];
         let number = entry_number(entry);
@@ -32,23 +28,21 @@ pub(crate) fn contents_sound(book: &[u8], head: Head) -> bool
         }
         last = number;
         expected += size;
-        k += 1;
     }
     true
 }
 
-// Where a pile number stands in the contents; p where it is absent.
-pub(crate) fn place_of(book: &[u8], p: u8, number: u16) -> u8
+// Where a pile number stands in the contents of p piles.
+pub(crate) fn place_of(book: &[u8], p: u8, number: u16) -> Option<u8>
     requires { EntriesWithin p book.now }
-    ensures { result ≡ index p (λ k. eqb (pile_number book.now k) number) }
+    ensures found { IfSome result (λ k. (k < p) × (k ≡ place_among p book.now number)) }
+    ensures absent { IfNone result (place_among p book.now number ≡ p) }
 {
-    let mut k: u8 = 0;
-    while k < p {
+    for k in 0..p {
         let at = entry_at(k);
         if entry_number(&book[at..at + ENTRY]) == number {
-            return k;
+            return Some(k);
         }
-        k += 1;
     }
-    p
+    None
 }

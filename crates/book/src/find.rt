@@ -1,47 +1,22 @@
 // The place of a pile in a book, by its number.
-ghost use Rattle.std.specs.Prelude.{◌≡◌};
+ghost use Rattle.std.specs.Prelude.{◌≡◌, IfOk};
 ghost use Rattle.rules.specs.Book.{desk_answer, place};
+ghost use Rattle.refusal.specs.Answers.{answered};
 
 use crate::contents::place_of;
 use crate::readable::book_answer;
 use layout::head::head_of;
+use refusal::Refusal;
 
-// A refusal's number or 0, and where it is 0 the pile's place in the contents.
-#[derive(Clone, Copy)]
-pub(crate) struct Found {
-    pub answer: u8,
-    pub place: u8,
-}
-
-// The book's own refusal, 11 where it does not have the desk, 10 where it does not have the pile. Every book has desk 0.
-pub(crate) fn find(book: &[u8], desk: u8, number: u16) -> Found
-    ensures answer { result.answer ≡ desk_answer desk book.now number }
-    ensures place { result.answer ≡ 0 → result.place ≡ place book.now number }
+// The pile's place in the contents; the book's own refusal, 11 where it does not have the desk, 10 where it does not have the pile. Every book has desk 0.
+pub(crate) fn find(book: &[u8], desk: u8, number: u16) -> Result<u8, Refusal>
+    ensures answer { answered result ≡ desk_answer desk book.now number }
+    ensures place { IfOk result (λ k. k ≡ place book.now number) }
 {
-    let own = book_answer(book);
-    if own != 0 {
-        return Found {
-            answer: own,
-            place: 0,
-        };
-    }
+    book_answer(book)?;
     let head = head_of(book);
     if head.desks <= desk {
-        return Found {
-            answer: 11,
-            place: 0,
-        };
+        return Err(Refusal::DeskAbsent);
     }
-    let p = head.piles;
-    let k = place_of(book, p, number);
-    if k == p {
-        return Found {
-            answer: 10,
-            place: 0,
-        };
-    }
-    Found {
-        answer: 0,
-        place: k,
-    }
+    place_of(book, head.piles, number).ok_or(Refusal::PileAbsent)
 }

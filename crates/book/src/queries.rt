@@ -1,25 +1,16 @@
 // Rights of a desk. The side is a parameter: 0 for draw, any other for tip.
 ghost use Rattle.std.specs.Prelude.{◌≡◌};
-ghost use Rattle.rules.specs.Refusals.{reply};
-ghost use Rattle.rules.specs.Pile.{rights};
+ghost use Rattle.rules.specs.Pile.{rights, side_of};
 ghost use Rattle.rules.specs.Layout.{desks, body_view};
-ghost use Rattle.rules.specs.Pile.{side_of};
-ghost use Rattle.pile.specs.Replies.{as_reply};
 ghost use Rattle.book.specs.Inner.{SoughtBody};
 
 use crate::Sought;
 use audit::rights_in;
-use pile::Amount;
 
 // By the body that `seek` has found. It is sought by the callers: with that in it the function is too long to be inlined, and its answer goes through memory.
-pub(crate) fn rights_of(book: &[u8], side: u8, desk: u8, found: Sought) -> Amount
-    requires { found.answer ≡ 0 → SoughtBody desk book.now found.desks found.start }
-    ensures { as_reply result ≡ reply found.answer
-        (rights (desks book.now) (body_view (desks book.now) book.now found.start) (side_of side) desk) }
+pub(crate) fn rights_of(book: &[u8], side: u8, desk: u8, found: Sought) -> u32
+    requires { SoughtBody desk book.now found.desks found.start }
+    ensures { result ≡ rights (desks book.now) (body_view (desks book.now) book.now found.start) (side_of side) desk }
 {
-    let refusal = found.answer;
-    if refusal != 0 {
-        return Amount::Refused(refusal);
-    }
-    Amount::Tonnes(rights_in(book, found.start as usize, found.desks, side, desk) as u32)
+    rights_in(book, found.start as usize, found.desks, side, desk) as u32
 }

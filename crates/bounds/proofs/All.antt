@@ -3,15 +3,14 @@
 use Prim.Native.Nat.{ℕ, ◌+◌, ◌≤◌, ◌<◌}
 use native.Mathlib.Omega.{arith}
 use mathlib.Core.Path.{◌≡◌, ap, sym, ◌∙◌}
-use mathlib.Core.Logic.{◌≢◌}
 use mathlib.Core.List.{List}
-use lib.ListN.{get_or, replicate}
+use lib.ListN.{get_or}
 use Rattle.rules.specs.Loops.{list}
 use Rattle.rules.specs.Pile.{Side, Pile, rights}
 use Rattle.rules.specs.Layout.{desk_limit, body_view}
 use Rattle.rules.specs.Record.{padded}
 use Rattle.rules.specs.Bounds.{bound}
-use Rattle.rules.proofs.Loops.Refusals.{when_accepted, when_refused}
+use Rattle.rules.proofs.Loops.Refusals.{when_accepted}
 use Rattle.rules.proofs.Loops.Pieces.{getD_list}
 use Rattle.rules.proofs.Record.RecordOf.{padded_used}
 use Rattle.rules.proofs.Record.Padded.{padded_cong}
@@ -50,8 +49,3 @@ module _ (n at : ℕ) (b : List ℕ) where
         made
         ∙ padded_cong desk_limit n (λ i. kept s floor top (get_or found i 0)) (bound n P s) (λ i l. rw (at_desk i l, floor_read, top_read) (kept_bound n P s i))
         ∙ sym (when_accepted _ _ _ passed)
-
-  -- the body is refused
-  pub none_kept : {answer : ℕ} → answer ≡ account_answer n at b → answer ≢ 0 → (s : Side) → replicate desk_limit 0 ≡ account_bounds s n at b
-  unfolding account_bounds
-  none_kept is d s = sym (when_refused _ _ _ (λ z. d (is ∙ z)))

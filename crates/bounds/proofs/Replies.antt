@@ -3,7 +3,7 @@
 use Prim.Native.Nat.{ℕ, ◌+◌, ◌-◌, ◌≤◌, ◌<◌}
 use native.Mathlib.Decide.{ℕ_discrete}
 use native.Mathlib.Omega.{arith}
-use mathlib.Core.Path.{◌≡◌, ap, sym, ◌∙◌}
+use mathlib.Core.Path.{◌≡◌, refl, ap, sym, ◌∙◌}
 use mathlib.Core.Logic.{by_cases}
 use mathlib.Core.List.{List}
 use lib.ListN.{length}
@@ -101,7 +101,7 @@ module _ (i : ℕ) (b : List ℕ) {n at : ℕ} (sought : SoughtBody i b n at) (s
   bound_read is = is ∙ rw (floor_read, top_read, rights_there) (kept_bound (desks b) P s i)
 
 -- and what `seek` tells of a number
-module _ (i : ℕ) (b : List ℕ) (number : ℕ) {m start n : ℕ} (told : Told i b number m start n) where
-  pub bound_reply_lem : (s : Side) → reply m (bound (desks b) (body_view (desks b) b start) s i) ≡ bound_reply s i b number
-  unfolding bound_reply
-  bound_reply_lem s = sought_reply i b number told (λ p. bound (desks b) p s i)
+pub bound_found : (i : ℕ) (b : List ℕ) (number : ℕ) {start n : ℕ} → Told i b number 0 start n → (s : Side) {x : ℕ}
+    → x ≡ bound (desks b) (body_view (desks b) b start) s i → value x ≡ bound_reply s i b number
+unfolding bound_reply
+bound_found i b number told s = sought_reply i b number told refl (λ p. bound (desks b) p s i)

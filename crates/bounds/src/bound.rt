@@ -26,11 +26,8 @@ pub(crate) fn bounds_of(side: u8, floor: u32, top: u32, rights: [u32; DESKS], n:
     ensures { result ≡ list desk_limit (padded n (λ i. kept (side_of side) floor top (get_or rights i 0))) }
 {
     let mut bounds = [0u32; DESKS];
-    let mut i: u8 = 0;
-    while i < n {
-        let desk = i as usize;
-        bounds[desk] = bound_of(side, floor, top, rights[desk]);
-        i += 1;
+    for i in 0..usize::from(n) {
+        bounds[i] = bound_of(side, floor, top, rights[i]);
     }
     bounds
 }

@@ -4,22 +4,24 @@
 mod bound;
 mod queries;
 
-ghost use Rattle.std.specs.Prelude.{◌≡◌};
+ghost use Rattle.std.specs.Prelude.{◌≡◌, IfOk};
 ghost use Rattle.rules.specs.Pile.{draw, tip, tonnage};
 ghost use Rattle.rules.specs.Bounds.{bound_reply, record_bound_reply};
 ghost use Rattle.audit.specs.Audits.{account_answer, account_number, account_rights};
 ghost use Rattle.pile.specs.View.{as_record};
 ghost use Rattle.pile.specs.Replies.{as_reply};
 ghost use Rattle.bounds.specs.AccountBounds.{account_bounds};
+ghost use Rattle.refusal.specs.Answers.{answered};
 
 use audit::accounts::{Account, account_of};
 use book::seek;
 use bound::bounds_of;
 use layout::limits::DESKS;
-use pile::{Amount, Pile};
+use pile::Pile;
 use queries::{book_bound, record_bound};
+use refusal::Refusal;
 
-// The account of a body, and each desk's least and most. All is 0 past n, and beside a refusal's number.
+// The account of a body, and each desk's least and most. All is 0 past n.
 #[derive(Clone, Copy)]
 pub struct Bounded {
     pub held: Account,
@@ -28,14 +30,14 @@ pub struct Bounded {
 }
 
 // The pile has at least so many tonnes, as far as a desk can be sure: floor and its draw rights; refused with 2, 5, 6, 7 or 11.
-pub fn pile_least(pile: Pile, desk: u8) -> Amount
+pub fn pile_least(pile: Pile, desk: u8) -> Result<u32, Refusal>
     ensures { as_reply result ≡ record_bound_reply draw desk (as_record pile) }
 {
     record_bound(pile, 0, desk)
 }
 
 // The pile has at most so many tonnes, as far as a desk can be sure: top less its tip rights; refused with 2, 5, 6, 7 or 11.
-pub fn pile_most(pile: Pile, desk: u8) -> Amount
+pub fn pile_most(pile: Pile, desk: u8) -> Result<u32, Refusal>
     ensures { as_reply result ≡ record_bound_reply tip desk (as_record pile) }
 {
     record_bound(pile, 1, desk)
@@ -43,42 +45,32 @@ pub fn pile_most(pile: Pile, desk: u8) -> Amount
 
 // The account of the body of n desks at a position, and the least and the most of all desks beside it; refused with 2 for n, 3 where no body is there, then 5,
 // 6 or 7.
-pub fn bounds_in(bytes: &[u8], at: usize, n: u8) -> Bounded
-    ensures answer { result.held.answer ≡ account_answer n at bytes.now }
-    ensures floor { result.held.floor ≡ account_number (λ p. p.floor) n at bytes.now }
-    ensures top { result.held.top ≡ account_number (λ p. p.top) n at bytes.now }
-    ensures tonnage { result.held.tonnage ≡ account_number (tonnage n) n at bytes.now }
-    ensures draw { result.held.draw ≡ account_rights draw n at bytes.now }
-    ensures tip { result.held.tip ≡ account_rights tip n at bytes.now }
-    ensures least { result.least ≡ account_bounds draw n at bytes.now }
-    ensures most { result.most ≡ account_bounds tip n at bytes.now }
+pub fn bounds_in(bytes: &[u8], at: usize, n: u8) -> Result<Bounded, Refusal>
+    ensures answer { answered result ≡ account_answer n at bytes.now }
+    ensures floor { IfOk result (λ b. b.held.floor ≡ account_number (λ p. p.floor) n at bytes.now) }
+    ensures top { IfOk result (λ b. b.held.top ≡ account_number (λ p. p.top) n at bytes.now) }
+    ensures tonnage { IfOk result (λ b. b.held.tonnage ≡ account_number (tonnage n) n at bytes.now) }
+    ensures draw { IfOk result (λ b. b.held.draw ≡ account_rights draw n at bytes.now) }
+    ensures tip { IfOk result (λ b. b.held.tip ≡ account_rights tip n at bytes.now) }
+    ensures least { IfOk result (λ b. b.least ≡ account_bounds draw n at bytes.now) }
+    ensures most { IfOk result (λ b. b.most ≡ account_bounds tip n at bytes.now) }
 {
-    let held = account_of(bytes, at, n);
-    let answer = held.answer;
-    if answer != 0 {
-        return Bounded {
-            held,
-            least: [0; DESKS],
-            most: [0; DESKS],
-        };
-    }
-    let draw = held.draw;
-    let tip = held.tip;
-    let least = bounds_of(0, held.floor, held.top, draw, n);
-    let most = bounds_of(1, held.floor, held.top, tip, n);
-    Bounded { held, least, most }
+    let held = account_of(bytes, at, n)?;
+    let least = bounds_of(0, held.floor, held.top, held.draw, n);
+    let most = bounds_of(1, held.floor, held.top, held.tip, n);
+    Ok(Bounded { held, least, most })
 }
 
 // The least that a pile has, as far as a desk can be sure; refused with 1 to 7, 11 or 10.
-pub fn least(book: &[u8], desk: u8, number: u16) -> Amount
+pub fn least(book: &[u8], desk: u8, number: u16) -> Result<u32, Refusal>
     ensures { as_reply result ≡ bound_reply draw desk book.now number }
 {
-    book_bound(book, 0, desk, seek(book, desk, number))
+    Ok(book_bound(book, 0, desk, seek(book, desk, number)?))
 }
 
 // The most that a pile has, as far as a desk can be sure; refused with 1 to 7, 11 or 10.
-pub fn most(book: &[u8], desk: u8, number: u16) -> Amount
+pub fn most(book: &[u8], desk: u8, number: u16) -> Result<u32, Refusal>
     ensures { as_reply result ≡ bound_reply tip desk book.now number }
 {
-    book_bound(book, 1, desk, seek(book, desk, number))
+    Ok(book_bound(book, 1, desk, seek(book, desk, number)?))
 }

@@ -2,33 +2,33 @@
 ghost use Rattle.std.specs.Prelude.{◌≡◌};
 ghost use Rattle.rules.specs.Book.{act_answer, after_act};
 ghost use Rattle.desk.specs.Kinds.{kind_of, act};
+ghost use Rattle.refusal.specs.Answers.{answered};
 
-use crate::kinds::{Kind, column, receiver_wrong_for, side_of};
+use crate::kinds::Kind;
 use act_lines::act_refusal;
 use audit::rights_in;
 use book::seek;
 use layout::cells::cell_at;
 use number::{get4, put4};
+use refusal::Refusal;
 
-// The act itself: its answer, and the book after it, unaltered where it is refused.
-pub(crate) fn enter(book: &mut [u8], desk: u8, number: u16, kind: Kind, amount: u32) -> u8
-    ensures answer { result ≡ act_answer desk (act (kind_of kind) number amount) book.old }
+// The act itself: its answer, and the book after it, unaltered where it is refused. The tally lies in a body that was found, so it has its room there.
+pub(crate) fn enter(
+    book: &mut [u8],
+    desk: u8,
+    number: u16,
+    kind: Kind,
+    amount: u32,
+) -> Result<(), Refusal>
+    ensures answer { answered result ≡ act_answer desk (act (kind_of kind) number amount) book.old }
     ensures book { book.new ≡ after_act desk (act (kind_of kind) number amount) book.old }
 {
-    let found = seek(book, desk, number);
-    let refusal = found.answer;
-    if refusal != 0 {
-        return refusal;
-    }
+    let found = seek(book, desk, number)?;
     let n = found.desks;
     let start = found.start as usize;
-    let at = start + cell_at(n, desk + 1, column(n, kind));
+    let at = start + cell_at(n, desk + 1, kind.column(n));
     let tally = get4(book, at);
-    let rights = rights_in(book, start, n, side_of(kind), desk);
-    let answer = act_refusal(receiver_wrong_for(n, desk, kind), amount, rights, tally);
-    if answer != 0 {
-        return answer;
-    }
-    put4(book, at, tally + amount);
-    0
+    let rights = rights_in(book, start, n, kind.side(), desk);
+    act_refusal(kind.receiver_wrong(n, desk), amount, rights, tally)?;
+    put4(book, at, tally + amount)
 }

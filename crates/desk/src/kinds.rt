@@ -9,7 +9,7 @@ use act_lines::receiver_wrong;
 use layout::cells::{earned_column, side_column};
 
 // A give has its receiver.
-#[derive(Clone, Copy)]
+#[derive(Clone, Copy, Debug, PartialEq, Eq)]
 pub(crate) enum Kind {
     Tip,
     Draw,
@@ -17,38 +17,36 @@ pub(crate) enum Kind {
     GiveTip(u8),
 }
 
-// A give's receiver is no desk, or the giver itself.
-pub(crate) fn receiver_wrong_for(n: u8, desk: u8, kind: Kind) -> bool
-    ensures { result ≡ receiver_wrong n desk (kind_of kind) }
-{
-    match kind {
-        Kind::Tip => false,
-        Kind::Draw => false,
-        Kind::GiveDraw(receiver) => receiver_wrong(n, desk, receiver),
-        Kind::GiveTip(receiver) => receiver_wrong(n, desk, receiver),
+impl Kind {
+    // A give's receiver is no desk, or the giver itself.
+    pub(crate) fn receiver_wrong(self, n: u8, desk: u8) -> bool
+        ensures { result ≡ receiver_wrong n desk (kind_of self) }
+    {
+        match self {
+            Kind::Tip | Kind::Draw => false,
+            Kind::GiveDraw(receiver) | Kind::GiveTip(receiver) => receiver_wrong(n, desk, receiver),
+        }
     }
-}
 
-// The side whose rights the act needs: 0 for draw and 1 for tip.
-pub(crate) fn side_of(kind: Kind) -> u8
-    ensures { side_of result ≡ side (kind_of kind) }
-{
-    match kind {
-        Kind::Tip => 1,
-        Kind::Draw => 0,
-        Kind::GiveDraw(_) => 0,
-        Kind::GiveTip(_) => 1,
+    // The side whose rights the act needs: 0 for draw and 1 for tip.
+    pub(crate) fn side(self) -> u8
+        ensures { side_of result ≡ side (kind_of self) }
+    {
+        match self {
+            Kind::Draw | Kind::GiveDraw(_) => 0,
+            Kind::Tip | Kind::GiveTip(_) => 1,
+        }
     }
-}
 
-// The column of the act's tally in a row of n desks.
-pub(crate) fn column(n: u8, kind: Kind) -> u16
-    ensures { result ≡ act_column n (kind_of kind) }
-{
-    match kind {
-        Kind::Tip => earned_column(0),
-        Kind::Draw => earned_column(1),
-        Kind::GiveDraw(receiver) => side_column(n, 0, receiver),
-        Kind::GiveTip(receiver) => side_column(n, 1, receiver),
+    // The column of the act's tally in a row of n desks.
+    pub(crate) fn column(self, n: u8) -> u16
+        ensures { result ≡ act_column n (kind_of self) }
+    {
+        match self {
+            Kind::Tip => earned_column(0),
+            Kind::Draw => earned_column(1),
+            Kind::GiveDraw(receiver) => side_column(n, 0, receiver),
+            Kind::GiveTip(receiver) => side_column(n, 1, receiver),
+        }
     }
 }

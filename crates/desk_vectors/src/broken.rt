@@ -1,26 +1,23 @@
 // Books of two desks and two piles that are refused, and openings of them: each number of the table.
+use crate::acted;
 use crate::takes::{LENGTH, h};
-use crate::{answer, end, outcome};
 use book::check;
 use opening::open;
+use refusal::answer;
 use std::io;
 
 // The book with another byte.
 pub(crate) fn with(book: [u8; LENGTH], at: usize, byte: u8) -> [u8; LENGTH] {
-    let mut b = book;
-    if at < LENGTH {
-        b[at] = byte;
+    let mut changed = book;
+    if let Some(place) = changed.get_mut(at) {
+        *place = byte;
     }
-    b
+    changed
 }
 
 // Its first bytes.
 pub(crate) fn first(book: &[u8], count: usize) -> &[u8] {
-    if count <= book.len() {
-        &book[0..count]
-    } else {
-        book
-    }
+    book.get(..count).unwrap_or(book)
 }
 
 // Pile 9's body starts at 88, and its rows at 112 and 136. Its top set to 7: the shares do not add up.
@@ -46,142 +43,128 @@ pub(crate) fn rights_negative(book: [u8; LENGTH]) -> [u8; LENGTH] {
     with(book, 116, 2)
 }
 
-fn line(rt: &impl Print, label: &[u8], book: &[u8]) -> io::Result<()> {
-    answer(rt, label, check(book))?;
-    end(rt)
+fn line(rt: &impl Print, label: &str, book: &[u8]) -> io::Result<()> {
+    println!(rt; "{label}: {}", answer(check(book)))
 }
 
 // Heads that are wrong, each at one byte.
 fn heads(rt: &impl Print, h: [u8; LENGTH]) -> io::Result<()> {
     let b = with(h, 0, 2);
-    line(rt, b"check version 2", &b)?;
+    line(rt, "check version 2", &b)?;
     let b = with(h, 1, 0);
-    line(rt, b"check no desks", &b)?;
+    line(rt, "check no desks", &b)?;
     let b = with(h, 1, 9);
-    line(rt, b"check 9 desks", &b)?;
+    line(rt, "check 9 desks", &b)?;
     let b = with(h, 2, 0);
-    line(rt, b"check no piles", &b)?;
+    line(rt, "check no piles", &b)?;
     let b = with(h, 2, 33);
-    line(rt, b"check 33 piles", &b)?;
+    line(rt, "check 33 piles", &b)?;
     let b = with(h, 3, 1);
-    line(rt, b"check a fourth byte of 1", &b)
+    line(rt, "check a fourth byte of 1", &b)
 }
 
 // Lengths, and contents.
 fn contents(rt: &impl Print, h: [u8; LENGTH]) -> io::Result<()> {
-    line(rt, b"check 3 bytes", first(&h, 3))?;
-    line(rt, b"check 159 bytes", first(&h, 159))?;
+    line(rt, "check 3 bytes", first(&h, 3))?;
+    line(rt, "check 159 bytes", first(&h, 159))?;
     let b = with(h, 2, 1);
-    line(rt, b"check 160 bytes of one pile", &b)?;
+    line(rt, "check 160 bytes of one pile", &b)?;
     let b = with(h, 1, 3);
-    line(rt, b"check 160 bytes of three desks", &b)?;
+    line(rt, "check 160 bytes of three desks", &b)?;
     let b = with(h, 4, 0);
-    line(rt, b"check pile number 0", &b)?;
+    line(rt, "check pile number 0", &b)?;
     let b = with(h, 10, 5);
-    line(rt, b"check pile number 5 twice", &b)?;
+    line(rt, "check pile number 5 twice", &b)?;
     let b = with(h, 12, 16);
-    line(rt, b"check a wrong position", &b)
+    line(rt, "check a wrong position", &b)
 }
 
 // Bodies; in the last the first pile's rights are negative too, and the first pile counts.
 fn bodies(rt: &impl Print, h: [u8; LENGTH]) -> io::Result<()> {
     let b = opening_wrong(h);
-    line(rt, b"check a wrong opening of 9", &b)?;
+    line(rt, "check a wrong opening of 9", &b)?;
     let b = tally_over(h);
-    line(rt, b"check a tally over its limit", &b)?;
+    line(rt, "check a tally over its limit", &b)?;
     let b = give_to_itself(h);
-    line(rt, b"check a give to itself", &b)?;
+    line(rt, "check a give to itself", &b)?;
     let b = rights_negative(h);
-    line(rt, b"check negative rights", &b)?;
+    line(rt, "check negative rights", &b)?;
     let b = opening_wrong(with(h, 44, 5));
-    line(rt, b"check negative rights of 5, a wrong opening of 9", &b)
+    line(rt, "check negative rights of 5, a wrong opening of 9", &b)
 }
 
 // The first in table order, where two are wrong.
 fn orders(rt: &impl Print, h: [u8; LENGTH]) -> io::Result<()> {
     let b = with(with(h, 0, 2), 10, 5);
-    line(rt, b"check a wrong version and pile number", &b)?;
-    line(rt, b"check 3 bytes of them", first(&b, 3))?;
+    line(rt, "check a wrong version and pile number", &b)?;
+    line(rt, "check 3 bytes of them", first(&b, 3))?;
     let b = with(h, 10, 5);
-    line(rt, b"check a wrong length and pile number", first(&b, 159))?;
+    line(rt, "check a wrong length and pile number", first(&b, 159))?;
     let b = opening_wrong(with(h, 10, 5));
-    line(rt, b"check a wrong pile number and opening", &b)?;
+    line(rt, "check a wrong pile number and opening", &b)?;
     let b = opening_wrong(tally_over(h));
-    line(rt, b"check a wrong opening and tally", &b)?;
+    line(rt, "check a wrong opening and tally", &b)?;
     let b = tally_over(rights_negative(h));
-    line(rt, b"check a wrong tally and negative rights", &b)
+    line(rt, "check a wrong tally and negative rights", &b)
 }
 
 // An opening in a buffer of 160 bytes of 7.
-fn opens(rt: &impl Print, label: &[u8], n: u8, p: u8, numbers: &[u32]) -> io::Result<()> {
-    let before = [7u8; LENGTH];
-    let mut out = before;
-    let x = open(n, p, numbers, &mut out);
-    outcome(rt, label, x, &before, &out)?;
-    end(rt)
+fn opens(rt: &impl Print, label: &str, n: u8, p: u8, numbers: &[u32]) -> io::Result<()> {
+    acted(rt, label, [7u8; LENGTH], |out| open(n, p, numbers, out))?;
+    println!(rt;)
 }
 
 fn sizes(rt: &impl Print) -> io::Result<()> {
     let numbers = [5, 10, 50, 4, 6, 20, 10, 9, 0, 8, 1, 2, 3, 2];
-    opens(rt, b"open", 2, 2, &numbers)?;
-    opens(rt, b"open for no desks", 0, 2, &numbers)?;
-    opens(rt, b"open for 9 desks", 9, 2, &numbers)?;
-    opens(rt, b"open no piles", 2, 0, &numbers)?;
-    opens(rt, b"open 33 piles", 2, 33, &numbers)?;
-    opens(rt, b"open for 3 desks", 3, 2, &numbers)?;
+    opens(rt, "open", 2, 2, &numbers)?;
+    opens(rt, "open for no desks", 0, 2, &numbers)?;
+    opens(rt, "open for 9 desks", 9, 2, &numbers)?;
+    opens(rt, "open no piles", 2, 0, &numbers)?;
+    opens(rt, "open 33 piles", 2, 33, &numbers)?;
+    opens(rt, "open for 3 desks", 3, 2, &numbers)?;
     let long = [5, 10, 50, 4, 6, 20, 10, 9, 0, 8, 1, 2, 3, 2, 0];
-    opens(rt, b"open from 15 numbers", 2, 2, &long)?;
+    opens(rt, "open from 15 numbers", 2, 2, &long)?;
     let short = [5, 10, 50, 4, 6, 20, 10, 9, 0, 8, 1, 2, 3];
-    opens(rt, b"open from 13 numbers", 2, 2, &short)
+    opens(rt, "open from 13 numbers", 2, 2, &short)
 }
 
 fn lists(rt: &impl Print) -> io::Result<()> {
     let falling = [9, 0, 8, 1, 2, 3, 2, 5, 10, 50, 4, 6, 20, 10];
-    opens(rt, b"open with falling pile numbers", 2, 2, &falling)?;
+    opens(rt, "open with falling pile numbers", 2, 2, &falling)?;
     let twice = [5, 10, 50, 4, 6, 20, 10, 5, 0, 8, 1, 2, 3, 2];
-    opens(rt, b"open with pile number 5 twice", 2, 2, &twice)?;
+    opens(rt, "open with pile number 5 twice", 2, 2, &twice)?;
     let none = [0, 10, 50, 4, 6, 20, 10, 9, 0, 8, 1, 2, 3, 2];
-    opens(rt, b"open with pile number 0", 2, 2, &none)?;
+    opens(rt, "open with pile number 0", 2, 2, &none)?;
     let most = [5, 10, 50, 4, 6, 20, 10, 65536, 0, 8, 1, 2, 3, 2];
-    opens(rt, b"open with pile number 65536", 2, 2, &most)?;
+    opens(rt, "open with pile number 65536", 2, 2, &most)?;
     let both = [5, 10, 50, 4, 6, 20, 11, 5, 0, 8, 1, 2, 3, 2];
-    opens(rt, b"open with a wrong opening, and 5 twice", 2, 2, &both)?;
+    opens(rt, "open with a wrong opening, and 5 twice", 2, 2, &both)?;
     let former = [5, 10, 50, 4, 6, 20, 11, 9, 0, 8, 1, 2, 3, 2];
-    opens(rt, b"open with a wrong opening of 5", 2, 2, &former)?;
+    opens(rt, "open with a wrong opening of 5", 2, 2, &former)?;
     let latter = [5, 10, 50, 4, 6, 20, 10, 9, 0, 8, 1, 2, 3, 1];
-    opens(rt, b"open with a wrong opening of 9", 2, 2, &latter)?;
+    opens(rt, "open with a wrong opening of 9", 2, 2, &latter)?;
     let above = [5, 10, 50, 4, 6, 20, 10, 9, 10000001, 10000001, 0, 0, 0, 0];
-    opens(rt, b"open with a top over its limit", 2, 2, &above)
+    opens(rt, "open with a top over its limit", 2, 2, &above)
 }
 
 // Buffers of other lengths: one byte less, and with a wrong opening too; three bytes more, which stay.
 fn buffers(rt: &impl Print) -> io::Result<()> {
     let numbers = [5, 10, 50, 4, 6, 20, 10, 9, 0, 8, 1, 2, 3, 2];
-    let before = [7u8; 159];
-    let mut out = before;
-    let x = open(2, 2, &numbers, &mut out);
-    outcome(rt, b"open in 159 bytes", x, &before, &out)?;
-    end(rt)?;
+    let label = "open in 159 bytes";
+    acted(rt, label, [7u8; 159], |out| open(2, 2, &numbers, out))?;
+    println!(rt;)?;
     let latter = [5, 10, 50, 4, 6, 20, 10, 9, 0, 8, 1, 2, 3, 1];
-    let x = open(2, 2, &latter, &mut out);
-    outcome(
-        rt,
-        b"open in 159 bytes with a wrong opening of 9",
-        x,
-        &before,
-        &out,
-    )?;
-    end(rt)?;
-    let before = [7u8; 163];
-    let mut out = before;
-    let x = open(2, 2, &numbers, &mut out);
-    outcome(rt, b"open in 163 bytes", x, &before, &out)?;
-    end(rt)
+    let label = "open in 159 bytes with a wrong opening of 9";
+    acted(rt, label, [7u8; 159], |out| open(2, 2, &latter, out))?;
+    println!(rt;)?;
+    let label = "open in 163 bytes";
+    acted(rt, label, [7u8; 163], |out| open(2, 2, &numbers, out))?;
+    println!(rt;)
 }
 
 pub(crate) fn run(rt: &impl Print) -> io::Result<()> {
     let h = h();
-    line(rt, b"check H", &h)?;
+    line(rt, "check H", &h)?;
     heads(rt, h)?;
     contents(rt, h)?;
     bodies(rt, h)?;

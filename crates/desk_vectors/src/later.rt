@@ -1,41 +1,30 @@
 // Two rows compared, and the one that is handed on: its length and its first byte.
-use crate::{end, wide};
+use refusal::Refusal;
 use rows::{Comparison, compare, later_row};
-use samples::{decimal, text};
 use std::io;
 
-fn order(rt: &impl Print, x: Comparison) -> io::Result<()> {
-    match x {
-        Comparison::Alike => text(rt, b" alike")?,
-        Comparison::MineLater => text(rt, b" mine later")?,
-        Comparison::CopyLater => text(rt, b" the copy's later")?,
-        Comparison::Split => text(rt, b" split")?,
-        Comparison::Refused(number) => {
-            text(rt, b" refused ")?;
-            decimal(rt, number as u64)?;
-        }
+fn order(rt: &impl Print, told: Result<Comparison, Refusal>) -> io::Result<()> {
+    match told {
+        Ok(Comparison::Alike) => print!(rt; " alike"),
+        Ok(Comparison::MineLater) => print!(rt; " mine later"),
+        Ok(Comparison::CopyLater) => print!(rt; " the copy's later"),
+        Ok(Comparison::Split) => print!(rt; " split"),
+        Err(refusal) => print!(rt; " refused {}", u8::from(refusal)),
     }
-    Ok(())
 }
 
 fn handed(rt: &impl Print, row: &[u8]) -> io::Result<()> {
-    if row.len() == 0 {
-        text(rt, b" empty")?;
-    } else {
-        text(rt, b" bytes ")?;
-        decimal(rt, row.len() as u64)?;
-        text(rt, b" from ")?;
-        decimal(rt, wide(row[0]))?;
+    match row.first() {
+        Some(byte) => print!(rt; " bytes {} from {byte}", row.len()),
+        None => print!(rt; " empty"),
     }
-    Ok(())
 }
 
-fn line<'a>(rt: &impl Print, label: &[u8], a: &'a [u8], b: &'a [u8]) -> io::Result<()> {
-    text(rt, label)?;
-    text(rt, b":")?;
+fn line(rt: &impl Print, label: &str, a: &[u8], b: &[u8]) -> io::Result<()> {
+    print!(rt; "{label}:")?;
     order(rt, compare(a, b))?;
     handed(rt, later_row(a, b))?;
-    end(rt)
+    println!(rt;)
 }
 
 // A row of two desks with these numbers, each below 256.
@@ -48,7 +37,7 @@ fn row(tipped: u8, drawn: u8, draw_give: u8, tip_give: u8) -> [u8; 24] {
     r
 }
 
-fn two(rt: &impl Print, label: &[u8], a: [u8; 24], b: [u8; 24]) -> io::Result<()> {
+fn two(rt: &impl Print, label: &str, a: [u8; 24], b: [u8; 24]) -> io::Result<()> {
     line(rt, label, &a, &b)
 }
 
@@ -56,12 +45,12 @@ fn of_two_desks(rt: &impl Print) -> io::Result<()> {
     let early = row(5, 2, 3, 4);
     let late = row(6, 2, 3, 4);
     let last = row(5, 2, 3, 5);
-    two(rt, b"rows alike", early, early)?;
-    two(rt, b"rows, the copy's later", early, late)?;
-    two(rt, b"rows, mine later", late, early)?;
-    two(rt, b"rows, the copy's later at its last give", early, last)?;
-    two(rt, b"rows split", late, last)?;
-    two(rt, b"rows split, the other way", last, late)
+    two(rt, "rows alike", early, early)?;
+    two(rt, "rows, the copy's later", early, late)?;
+    two(rt, "rows, mine later", late, early)?;
+    two(rt, "rows, the copy's later at its last give", early, last)?;
+    two(rt, "rows split", late, last)?;
+    two(rt, "rows split, the other way", last, late)
 }
 
 // The numbers are compared, not their bytes: 256 is more than 255.
@@ -69,25 +58,25 @@ fn of_numbers(rt: &impl Print) -> io::Result<()> {
     let low = row(255, 2, 3, 4);
     let mut high = row(0, 2, 3, 4);
     high[1] = 1;
-    two(rt, b"rows of 255 and 256", low, high)
+    two(rt, "rows of 255 and 256", low, high)
 }
 
 // Of two lengths, and of lengths that no book has.
 fn of_lengths(rt: &impl Print) -> io::Result<()> {
     let two = [1u8; 24];
     let three = [1u8; 32];
-    line(rt, b"rows of 24 and 32 bytes", &two, &three)?;
-    line(rt, b"rows of 32 and 24 bytes", &three, &two)?;
+    line(rt, "rows of 24 and 32 bytes", &two, &three)?;
+    line(rt, "rows of 32 and 24 bytes", &three, &two)?;
     let none = [1u8; 8];
-    line(rt, b"rows of 8 bytes", &none, &none)?;
+    line(rt, "rows of 8 bytes", &none, &none)?;
     let one = [1u8; 16];
-    line(rt, b"rows of 16 bytes", &one, &one)?;
+    line(rt, "rows of 16 bytes", &one, &one)?;
     let eight = [1u8; 72];
-    line(rt, b"rows of 72 bytes", &eight, &eight)?;
+    line(rt, "rows of 72 bytes", &eight, &eight)?;
     let nine = [1u8; 80];
-    line(rt, b"rows of 80 bytes", &nine, &nine)?;
+    line(rt, "rows of 80 bytes", &nine, &nine)?;
     let odd = [1u8; 25];
-    line(rt, b"rows of 25 bytes", &odd, &odd)
+    line(rt, "rows of 25 bytes", &odd, &odd)
 }
 
 pub(crate) fn run(rt: &impl Print) -> io::Result<()> {

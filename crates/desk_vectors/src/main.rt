@@ -11,113 +11,107 @@ mod takes;
 mod worked;
 
 use book::{draw_rights, tip_rights, tonnage};
-use samples::{amount, decimal, text};
+use refusal::{Refusal, answer};
+use samples::amount;
 use std::io;
-use take::Taken;
-
-pub(crate) fn wide(x: u8) -> u64 {
-    x as u64
-}
+use take::take;
 
 // A sum over the bytes that tells their places too: each byte counts once for itself and once for each byte after it.
 fn sum(bytes: &[u8]) -> u64 {
     let mut once: u64 = 0;
     let mut sum: u64 = 0;
-    let mut i = 0;
-    while i < bytes.len() {
-        once = std::num::wrapping_add_u64(once, wide(bytes[i]));
-        sum = std::num::wrapping_add_u64(sum, once);
-        i += 1;
+    for byte in bytes {
+        once = once.wrapping_add(u64::from(*byte));
+        sum = sum.wrapping_add(once);
     }
     sum
 }
 
-// Are the bytes alike, one by one?
-fn same(a: &[u8], b: &[u8]) -> bool {
-    if a.len() != b.len() {
-        return false;
-    }
-    let mut i = 0;
-    while i < a.len() {
-        if a[i] != b[i] {
-            return false;
-        }
-        i += 1;
-    }
-    true
-}
-
-// A call and its answer.
-pub(crate) fn answer(rt: &impl Print, label: &[u8], x: u8) -> io::Result<()> {
-    text(rt, label)?;
-    text(rt, b": ")?;
-    decimal(rt, x as u64)
-}
-
 // Whether the bytes after a call are those before it, with their sum.
 fn left(rt: &impl Print, before: &[u8], after: &[u8]) -> io::Result<()> {
-    if same(before, after) {
-        text(rt, b" unaltered ")?;
+    let word = if before == after {
+        "unaltered"
     } else {
-        text(rt, b" altered ")?;
-    }
-    decimal(rt, sum(after))
+        "altered"
+    };
+    print!(rt; " {word} {}", sum(after))
 }
 
 // A call, its answer, and what it left.
 pub(crate) fn outcome(
     rt: &impl Print,
-    label: &[u8],
-    x: u8,
+    label: &str,
+    told: Result<(), Refusal>,
     before: &[u8],
     after: &[u8],
 ) -> io::Result<()> {
-    answer(rt, label, x)?;
+    print!(rt; "{label}: {}", answer(told))?;
     left(rt, before, after)
 }
 
-// A take and its answer: the refusal's number or 0, and how many rows changed; then the bytes as above.
-pub(crate) fn taken(
+// A call on a copy of a book, and the copy after it.
+pub(crate) fn acted<const N: usize, F: FnOnce(&mut [u8]) -> Result<(), Refusal>>(
     rt: &impl Print,
-    label: &[u8],
-    x: Taken,
+    label: &str,
+    before: [u8; N],
+    act: F,
+) -> io::Result<[u8; N]>
+    requires { F.IsAlwaysCallable act }
+{
+    let mut book = before;
+    let told = act(&mut book);
+    outcome(rt, label, told, &before, &book)?;
+    Ok(book)
+}
+
+// A take and its answer: the refusal's number or 0, and how many rows changed, 0 beside a refusal; then the bytes as above.
+pub(crate) fn reported(
+    rt: &impl Print,
+    label: &str,
+    told: Result<u32, Refusal>,
     before: &[u8],
     after: &[u8],
 ) -> io::Result<()> {
-    answer(rt, label, x.answer)?;
-    text(rt, b" reports ")?;
-    decimal(rt, x.changed as u64)?;
+    match told {
+        Ok(changed) => print!(rt; "{label}: 0 reports {changed}")?,
+        Err(refusal) => print!(rt; "{label}: {} reports 0", u8::from(refusal))?,
+    }
     left(rt, before, after)
+}
+
+// A take into a copy of a book, and the copy after it.
+pub(crate) fn taken<const N: usize>(
+    rt: &impl Print,
+    label: &str,
+    own: [u8; N],
+    copy: &[u8],
+    desk: u8,
+) -> io::Result<[u8; N]> {
+    let mut book = own;
+    let told = take(&mut book, copy, desk);
+    reported(rt, label, told, &own, &book)?;
+    Ok(book)
 }
 
 // Two books compared.
-pub(crate) fn alike(rt: &impl Print, label: &[u8], a: &[u8], b: &[u8]) -> io::Result<()> {
-    text(rt, label)?;
-    if same(a, b) {
-        text(rt, b": alike\n")?;
-    } else {
-        text(rt, b": not alike\n")?;
-    }
-    Ok(())
+pub(crate) fn alike(rt: &impl Print, label: &str, a: &[u8], b: &[u8]) -> io::Result<()> {
+    let word = if a == b { "alike" } else { "not alike" };
+    println!(rt; "{label}: {word}")
 }
 
 // What a book says of a pile: its tonnage, and the draw and tip rights of desks 0 and 1.
 pub(crate) fn pile_of(rt: &impl Print, book: &[u8], number: u16) -> io::Result<()> {
-    text(rt, b" known")?;
+    print!(rt; " known")?;
     amount(rt, tonnage(book, number))?;
     rights(rt, book, 0, number)?;
     rights(rt, book, 1, number)
 }
 
 pub(crate) fn rights(rt: &impl Print, book: &[u8], desk: u8, number: u16) -> io::Result<()> {
-    text(rt, b" draw")?;
+    print!(rt; " draw")?;
     amount(rt, draw_rights(book, desk, number))?;
-    text(rt, b" tip")?;
+    print!(rt; " tip")?;
     amount(rt, tip_rights(book, desk, number))
-}
-
-pub(crate) fn end(rt: &impl Print) -> io::Result<()> {
-    text(rt, b"\n")
 }
 
 fn main(rt: HostRuntime) -> io::Result<()> {
@@ -127,6 +121,5 @@ fn main(rt: HostRuntime) -> io::Result<()> {
     broken::run(&rt)?;
     later::run(&rt)?;
     news::run(&rt)?;
-    longest::run(&rt)?;
-    Ok(())
+    longest::run(&rt)
 }

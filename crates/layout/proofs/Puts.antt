@@ -2,33 +2,34 @@
 -- Assumes nothing.
 use Prim.Native.Nat.{ℕ, ◌+◌, ◌≤◌, ◌<◌}
 use native.Mathlib.Omega.{arith}
-use mathlib.Core.Path.{◌≡◌, refl}
+use mathlib.Core.Path.{◌≡◌, ap, ◌∙◌}
 use mathlib.Core.List.{List, ◌++◌}
 use lib.ListN.{length}
 use lib.Seq.{sets, length-sets}
 use borrow.Author.Tests.{lt-ltb, le-ltb}
 use Rattle.rules.specs.Refusals.{◌when◌, done}
-use Rattle.rules.specs.Numbers.{bytes, after_put}
+use Rattle.rules.specs.Numbers.{bytes, put_answer, after_put}
 use Rattle.rules.specs.Layout as rules
 use Rattle.rules.specs.Layout.{entry_at, head_bytes}
+use Rattle.rules.proofs.Loops.Refusals.{not_met}
 use Rattle.rules.proofs.Loops.Sets.{sets_then}
 use Rattle.rules.proofs.Bytes.Numbers.{length_bytes}
 use Rattle.rules.proofs.Bytes.Put.{put_fits}
 use Rattle.layout.specs.Positions.{body_position, put_head_answer, after_put_head, put_entry_answer, after_put_entry}
 
 module _ (h : rules.Head) (b : List ℕ) where
-  pub head_refused : length b < 4 → (8 ≡ put_head_answer b) × (b ≡ after_put_head h b)
+  pub head_refused : length b < 4 → record { answer : 8 ≡ put_head_answer b; out : b ≡ after_put_head h b }
   unfolding put_head_answer after_put_head ◌when◌ done
-  head_refused short = rw (lt-ltb _ _ short) (refl, refl)
+  head_refused short = let fails = lt-ltb _ _ short in record { answer = rw fails; out = rw fails }
 
-  pub head_put : {after : List ℕ} → 4 ≤ length b → after ≡ sets b 0 (head_bytes h) → (0 ≡ put_head_answer b) × (after ≡ after_put_head h b)
+  pub head_put : {after : List ℕ} → 4 ≤ length b → after ≡ sets b 0 (head_bytes h) → record { answer : 0 ≡ put_head_answer b; out : after ≡ after_put_head h b }
   unfolding put_head_answer after_put_head ◌when◌ done
-  head_put room is = rw (le-ltb _ _ room) (refl, is)
+  head_put room is = let fits = le-ltb _ _ room in record { answer = rw fits; out = rw fits is }
 
   module _ (k x : ℕ) where
-    pub entry_refused : length b < entry_at k + 6 → (8 ≡ put_entry_answer k b) × (b ≡ after_put_entry h k x b)
+    pub entry_refused : length b < entry_at k + 6 → record { answer : 8 ≡ put_entry_answer k b; out : b ≡ after_put_entry h k x b }
     unfolding put_entry_answer after_put_entry ◌when◌ done
-    entry_refused short = rw (lt-ltb _ _ short) (refl, refl)
+    entry_refused short = let fails = lt-ltb _ _ short in record { answer = rw fails; out = rw fails }
 
     -- an entry is its number, and then its position
     entry_written : {at to y : ℕ} {between after : List ℕ} → entry_at k + 6 ≤ length b → at ≡ entry_at k → to ≡ at + 2 → y ≡ body_position h k
@@ -47,8 +48,20 @@ module _ (h : rules.Head) (b : List ℕ) where
         )
         (sets_then b (entry_at k) v (entry_at k + 2) (bytes 4 (body_position h k)) (omega arith))
 
-    pub entry_put : {at to y : ℕ} {between after : List ℕ} → entry_at k + 6 ≤ length b → at ≡ entry_at k → to ≡ at + 2 → y ≡ body_position h k
-        → between ≡ after_put 2 b at x → after ≡ after_put 4 between to y → (0 ≡ put_entry_answer k b) × (after ≡ after_put_entry h k x b)
-    unfolding put_entry_answer after_put_entry ◌when◌ done
-    entry_put room at-is to_is position first second =
-        rw (le-ltb _ _ room) (refl, entry_written room at-is to_is position first second)
+    -- the number has room, and so has the position behind it
+    pub number_answer : {at m : ℕ} → entry_at k + 6 ≤ length b → at ≡ entry_at k → m ≡ put_answer 2 b at → m ≡ 0
+    unfolding put_answer
+    number_answer {at} room at-is told = told ∙ not_met 8 (le-ltb (length b) (at + 2) (omega arith))
+
+    pub entry_put : {at to y m : ℕ} {between after : List ℕ} → entry_at k + 6 ≤ length b → at ≡ entry_at k → to ≡ at + 2 → y ≡ body_position h k
+        → between ≡ after_put 2 b at x → m ≡ put_answer 4 between to → after ≡ after_put 4 between to y
+        → record { answer : m ≡ put_entry_answer k b; out : after ≡ after_put_entry h k x b }
+    unfolding put_answer put_entry_answer after_put_entry ◌when◌ done
+    entry_put {at} {to} {y} {m} {between} room at-is to_is position first told second =
+        let fits = le-ltb _ _ room in
+        let two : length (bytes 2 x) ≡ 2 = length_bytes 2 x in
+        let stays : length between ≡ length b = ap length (first ∙ put_fits 2 b at x (omega arith)) ∙ length-sets b at (bytes 2 x) in
+        record {
+          answer = told ∙ rw (le-ltb (length between) (to + 4) (omega arith), fits);
+          out = rw fits (entry_written room at-is to_is position first second);
+        }

@@ -9,17 +9,14 @@ use crate::lengths::{NUMBER, row_length};
 pub fn columns_of(n: u8) -> u16
     ensures { result ≡ columns n }
 {
-    2 + (n as u16 + n as u16)
+    2 + (u16::from(n) + u16::from(n))
 }
 
 // The column of what earned a desk rights of a side: what it tipped, or what it drew. The opening has floor and top there.
 pub fn earned_column(side: u8) -> u16
     ensures { result ≡ earned_column (side_of side) }
 {
-    if side == 0 {
-        return 0;
-    }
-    1
+    if side == 0 { 0 } else { 1 }
 }
 
 // The column of a side's gives to desk j, and of its share of that side.
@@ -27,14 +24,15 @@ pub fn side_column(n: u8, side: u8, j: u8) -> u16
     ensures { result ≡ column n (side_of side) j }
 {
     if side == 0 {
-        return 2 + j as u16;
+        2 + u16::from(j)
+    } else {
+        2 + (u16::from(n) + u16::from(j))
     }
-    2 + (n as u16 + j as u16)
 }
 
 // Where a number of a row stands in a body of n desks.
 pub fn cell_at(n: u8, row: u8, column: u16) -> usize
     ensures { result ≡ cell_at n row column }
 {
-    row as usize * row_length(n) + column as usize * NUMBER
+    usize::from(row) * row_length(n) + usize::from(column) * NUMBER
 }

@@ -2,9 +2,11 @@
 ghost use Rattle.std.specs.Prelude.{◌≡◌};
 ghost use Rattle.rules.specs.Layout.{pile_number, position};
 ghost use Rattle.layout.specs.Positions.{as_head, entry_number, entry_position, put_head_answer, after_put_head, put_entry_answer, after_put_entry};
+ghost use Rattle.refusal.specs.Answers.{answered};
 
 use crate::head::{ENTRY, HEAD, Head, body_at, entry_at};
 use number::{get2, get4, put2, put4};
+use refusal::Refusal;
 
 // Where in an entry the position stands.
 const POSITION: usize = 2;
@@ -37,30 +39,29 @@ pub fn position(book: &[u8], k: u8) -> u32
 }
 
 // Writes a head at the start of a buffer; refused with 8 where it has no room, and nothing is written then.
-pub fn put_head(out: &mut [u8], head: Head) -> u8
-    ensures answer { result ≡ put_head_answer out.old }
+pub fn put_head(out: &mut [u8], head: Head) -> Result<(), Refusal>
+    ensures answer { answered result ≡ put_head_answer out.old }
     ensures out { out.new ≡ after_put_head (as_head head) out.old }
 {
     if out.len() < HEAD {
-        return 8;
+        return Err(Refusal::BufferShort);
     }
     out[0] = head.version;
     out[1] = head.desks;
     out[2] = head.piles;
     out[3] = head.fourth;
-    0
+    Ok(())
 }
 
 // Writes entry k of a book with this head: a pile's number, and where its body starts; refused with 8 where it has no room, and nothing is written then.
-pub fn put_entry(out: &mut [u8], head: Head, k: u8, number: u16) -> u8
-    ensures answer { result ≡ put_entry_answer k out.old }
+pub fn put_entry(out: &mut [u8], head: Head, k: u8, number: u16) -> Result<(), Refusal>
+    ensures answer { answered result ≡ put_entry_answer k out.old }
     ensures out { out.new ≡ after_put_entry (as_head head) k number out.old }
 {
     let at = entry_at(k);
     if out.len() < at + ENTRY {
-        return 8;
+        return Err(Refusal::BufferShort);
     }
-    put2(out, at, number);
-    put4(out, at + POSITION, body_at(head, k) as u32);
-    0
+    put2(out, at, number)?;
+    put4(out, at + POSITION, body_at(head, k) as u32)
 }

@@ -16,7 +16,7 @@ pub const HEAD: usize = 4;
 
 pub const ENTRY: usize = 6;
 
-#[derive(Clone, Copy)]
+#[derive(Clone, Copy, Debug, PartialEq, Eq)]
 pub struct Head {
     pub version: u8,
     pub desks: u8,
@@ -60,57 +60,42 @@ pub fn head_for(n: u8, p: u8) -> Head
 pub fn sizes_in_range(n: u8, p: u8) -> bool
     ensures { result ≡ sizes_in_range n p }
 {
-    if n < 1 {
-        return false;
-    }
-    if DESKS < n as usize {
-        return false;
-    }
-    if p < 1 {
-        return false;
-    }
-    p as usize <= PILES
+    (1..=DESKS).contains(&usize::from(n)) && (1..=PILES).contains(&usize::from(p))
 }
 
 // Version 1, sizes in range, 0.
 pub fn head_sound(head: Head) -> bool
     ensures { result ≡ head_sound (as_head head) }
 {
-    if head.version != VERSION {
-        return false;
-    }
-    if !sizes_in_range(head.desks, head.piles) {
-        return false;
-    }
-    head.fourth == 0
+    head.version == VERSION && sizes_in_range(head.desks, head.piles) && head.fourth == 0
 }
 
 // Where entry k of the contents stands.
 pub fn entry_at(k: u8) -> usize
     ensures { result ≡ entry_at k }
 {
-    HEAD + k as usize * ENTRY
+    HEAD + usize::from(k) * ENTRY
 }
 
 // All before the bodies.
 pub fn front_length(head: Head) -> usize
     ensures { result ≡ front_length (as_head head) }
 {
-    HEAD + head.piles as usize * ENTRY
+    HEAD + usize::from(head.piles) * ENTRY
 }
 
 // Where body k starts; the book ends where a body p would. Of desks that no book has a body has no length.
 pub fn body_at(head: Head, k: u8) -> usize
     ensures { result ≡ body_position (as_head head) k }
 {
-    front_length(head) + k as usize * body_length(head.desks)
+    front_length(head) + usize::from(k) * body_length(head.desks)
 }
 
 // How many rows stand behind the front: for each pile its opening, and a row of each desk.
 pub fn rows_of(head: Head) -> usize
     ensures { result ≡ head.piles * suc head.desks }
 {
-    head.piles as usize * (head.desks as usize + 1)
+    usize::from(head.piles) * (usize::from(head.desks) + 1)
 }
 
 // What a buffer for a book of n desks and p piles must hold: 0 where there is no such book.

@@ -25,28 +25,23 @@ pub const LONGEST_BOOK: usize = 20_932;
 pub fn body_length(n: u8) -> usize
     ensures { result ≡ body_size n }
 {
-    if n < 1 {
+    let desks = usize::from(n);
+    if desks < 1 || DESKS < desks {
         return 0;
     }
-    if DESKS < n as usize {
-        return 0;
-    }
-    BODY_LENGTHS[n as usize - 1] as usize
+    usize::from(BODY_LENGTHS[desks - 1])
 }
 
 // The length of a row of n desks: two numbers, and one of each side for each desk.
 pub fn row_length(n: u8) -> usize
     ensures { result ≡ row_length n }
 {
-    2 * NUMBER * (n as usize + 1)
+    2 * NUMBER * (usize::from(n) + 1)
 }
 
 // Is it the length of a row of 1 to 8 desks?
 pub fn is_row_length(len: usize) -> bool
     ensures { result ≡ is_row_length len }
 {
-    if len % 8 != 0 {
-        return false;
-    }
-    16 <= len && len <= 72
+    len % 8 == 0 && (16..=72).contains(&len)
 }

@@ -4,12 +4,14 @@ ghost use Rattle.rules.specs.Pile as side;
 ghost use Rattle.rules.specs.Acts.{spend, give};
 ghost use Rattle.rules.specs.Record.{record_act_answer, record_after_act};
 ghost use Rattle.pile.specs.View.{as_record};
+ghost use Rattle.refusal.specs.Answers.{answered};
 
 use pile::Pile;
+use refusal::Refusal;
 
 // A desk tips onto the lent pile; refused with 2, 5, 6, 7, 11, 13, 14 or 15, and then the record is unaltered.
-pub fn tip(pile: &mut Pile, desk: u8, amount: u32) -> u8
-    ensures answer { result ≡ record_act_answer desk (spend side.tip) amount (as_record pile.old) }
+pub fn tip(pile: &mut Pile, desk: u8, amount: u32) -> Result<(), Refusal>
+    ensures answer { answered result ≡ record_act_answer desk (spend side.tip) amount (as_record pile.old) }
     ensures pile { as_record pile.new ≡ record_after_act desk (spend side.tip) amount (as_record pile.old) }
 {
     let outcome = (*pile).tip(desk, amount);
@@ -18,8 +20,8 @@ pub fn tip(pile: &mut Pile, desk: u8, amount: u32) -> u8
 }
 
 // A desk draws from the lent pile; refused with 2, 5, 6, 7, 11, 13, 14 or 15, and then the record is unaltered.
-pub fn draw(pile: &mut Pile, desk: u8, amount: u32) -> u8
-    ensures answer { result ≡ record_act_answer desk (spend side.draw) amount (as_record pile.old) }
+pub fn draw(pile: &mut Pile, desk: u8, amount: u32) -> Result<(), Refusal>
+    ensures answer { answered result ≡ record_act_answer desk (spend side.draw) amount (as_record pile.old) }
     ensures pile { as_record pile.new ≡ record_after_act desk (spend side.draw) amount (as_record pile.old) }
 {
     let outcome = (*pile).draw(desk, amount);
@@ -28,8 +30,8 @@ pub fn draw(pile: &mut Pile, desk: u8, amount: u32) -> u8
 }
 
 // A desk gives draw rights of the lent pile; refused with 2, 5, 6, 7 or 11 to 15, and then the record is unaltered.
-pub fn give_draw(pile: &mut Pile, desk: u8, receiver: u8, amount: u32) -> u8
-    ensures answer { result ≡ record_act_answer desk (give side.draw receiver) amount (as_record pile.old) }
+pub fn give_draw(pile: &mut Pile, desk: u8, receiver: u8, amount: u32) -> Result<(), Refusal>
+    ensures answer { answered result ≡ record_act_answer desk (give side.draw receiver) amount (as_record pile.old) }
     ensures pile { as_record pile.new ≡ record_after_act desk (give side.draw receiver) amount (as_record pile.old) }
 {
     let outcome = (*pile).give_draw(desk, receiver, amount);
@@ -38,8 +40,8 @@ pub fn give_draw(pile: &mut Pile, desk: u8, receiver: u8, amount: u32) -> u8
 }
 
 // A desk gives tip rights of the lent pile; refused with 2, 5, 6, 7 or 11 to 15, and then the record is unaltered.
-pub fn give_tip(pile: &mut Pile, desk: u8, receiver: u8, amount: u32) -> u8
-    ensures answer { result ≡ record_act_answer desk (give side.tip receiver) amount (as_record pile.old) }
+pub fn give_tip(pile: &mut Pile, desk: u8, receiver: u8, amount: u32) -> Result<(), Refusal>
+    ensures answer { answered result ≡ record_act_answer desk (give side.tip receiver) amount (as_record pile.old) }
     ensures pile { as_record pile.new ≡ record_after_act desk (give side.tip receiver) amount (as_record pile.old) }
 {
     let outcome = (*pile).give_tip(desk, receiver, amount);

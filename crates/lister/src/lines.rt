@@ -1,11 +1,12 @@
 // The lines of a listing, as document 01 spells them. The tonnage known is that by the acts which the book holds.
+use refusal::Refusal;
 use std::io;
 
-pub(crate) fn refused_line(rt: &impl Print, answer: u8) -> io::Result<()> {
-    println!(rt; "refused {answer}")
+pub(crate) fn refused_line(rt: &impl Print, refusal: Refusal) -> io::Result<()> {
+    println!(rt; "refused {}", u8::from(refusal))
 }
 
-pub(crate) fn book_line(rt: &impl Print, desks: usize, piles: usize) -> io::Result<()> {
+pub(crate) fn book_line(rt: &impl Print, desks: u8, piles: u8) -> io::Result<()> {
     println!(rt; "book desks {desks} piles {piles}")
 }
 

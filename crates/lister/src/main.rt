@@ -25,48 +25,49 @@ fn list_desks(rt: &impl Print, n: u8, found: Bounded) -> io::Result<()>
     requires { n ≤ desk_limit }
 {
     let held = found.held;
-    let draw = held.draw;
-    let tip = held.tip;
-    let least = found.least;
-    let most = found.most;
-    let mut i: u8 = 0;
-    while i < n {
-        let desk = i as usize;
-        desk_line(rt, desk, draw[desk], tip[desk], least[desk], most[desk])?;
-        i += 1;
+    for desk in 0..n as usize {
+        desk_line(
+            rt,
+            desk,
+            held.draw[desk],
+            held.tip[desk],
+            found.least[desk],
+            found.most[desk],
+        )?;
     }
     Ok(())
 }
 
-// The lines of pile k, of a book of n desks: its account is made once, where its body stands, for the tonnage, all rights and all bounds.
+// The lines of pile k, of a book of n desks: its account is made once, where its body stands, for the tonnage, all rights and all bounds. Of a book that
+// passed its check no body is refused.
 fn list_pile(rt: &impl Print, book: &[u8], n: u8, k: u8) -> io::Result<()>
     requires { n ≤ desk_limit }
 {
-    let found = bounds_in(book, position(book, k) as usize, n);
-    let held = found.held;
-    pile_line(rt, pile_number(book, k), held.floor, held.top, held.tonnage)?;
-    list_desks(rt, n, found)
+    match bounds_in(book, position(book, k) as usize, n) {
+        Ok(found) => {
+            let held = found.held;
+            pile_line(rt, pile_number(book, k), held.floor, held.top, held.tonnage)?;
+            list_desks(rt, n, found)
+        }
+        Err(refusal) => refused_line(rt, refusal),
+    }
 }
 
 // The whole listing. The book is checked once, here.
 fn list(rt: &impl Print, book: &[u8]) -> io::Result<()> {
-    let answer = check(book);
-    if answer != 0 {
-        return refused_line(rt, answer);
+    if let Err(refusal) = check(book) {
+        return refused_line(rt, refusal);
     }
     let head = head_of(book);
-    let n = head.desks;
-    let p = head.piles;
-    book_line(rt, n as usize, p as usize)?;
-    let mut k: u8 = 0;
-    while k < p {
-        list_pile(rt, book, n, k)?;
-        k += 1;
+    book_line(rt, head.desks, head.piles)?;
+    for k in 0..head.piles {
+        list_pile(rt, book, head.desks, k)?;
     }
     Ok(())
 }
 
-// Reads until the buffer is full or the input ends, and returns how many bytes it put at the start of the buffer.
+// Reads until the buffer is full or the input ends, and returns how many bytes it put at the start of the buffer. A read may bring less than there is room
+// for, so the loop counts bytes and no turns; `read_to_end` would need a heap.
 fn read_full(input: &mut impl Read, buffer: &mut [u8]) -> io::Result<usize>
     ensures { IfOk result (λ n. n ≤ length buffer.new) }
 {

@@ -32,10 +32,10 @@ sets_halves b at x = rw (two_more at, div-div-eq-div-mul x 256 256)
 
 -- a put that is refused, and one that is done
 module _ (w : ℕ) (b : List ℕ) (at x : ℕ) where
-  pub put_refused : ltb (length b) (at + w) ≡ true → (8 ≡ put_answer w b at) × (b ≡ after_put w b at x)
+  pub put_refused : ltb (length b) (at + w) ≡ true → record { answer : 8 ≡ put_answer w b at; bytes : b ≡ after_put w b at x }
   unfolding put_answer after_put ◌when◌ done
-  put_refused e = rw e (refl, refl)
+  put_refused e = record { answer = rw e; bytes = rw e }
 
-  pub put_done : {s : List ℕ} → ltb (length b) (at + w) ≡ false → s ≡ sets b at (bytes w x) → (0 ≡ put_answer w b at) × (s ≡ after_put w b at x)
+  pub put_done : {s : List ℕ} → ltb (length b) (at + w) ≡ false → s ≡ sets b at (bytes w x) → record { answer : 0 ≡ put_answer w b at; bytes : s ≡ after_put w b at x }
   unfolding put_answer after_put ◌when◌ done
-  put_done e written = rw e (refl, written)
+  put_done e written = record { answer = rw e; bytes = rw e written }

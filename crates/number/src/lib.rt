@@ -4,9 +4,9 @@
 ghost use Rattle.std.specs.Prelude.{◌≡◌, ◌+◌, ◌*◌, ◌≤◌, ltb, length};
 ghost use Rattle.std.proofs.lemmas.List.Edits.{sets};
 ghost use Rattle.rules.specs.Numbers.{number, bytes, put_answer, after_put};
+ghost use Rattle.refusal.specs.Answers.{answered};
 
-// The answer of a put that has no room.
-const NO_ROOM: u8 = 8;
+use refusal::Refusal;
 
 // Whether w bytes at a position run past the end of len bytes. at + w itself may not fit a usize.
 fn short(len: usize, at: usize, w: usize) -> bool
@@ -16,16 +16,10 @@ fn short(len: usize, at: usize, w: usize) -> bool
 }
 
 // A number of its low and its high half.
-fn of_bytes(low: u8, high: u8) -> u16
-    ensures { result ≡ low + 256 * high }
-{
-    low as u16 + 256 * high as u16
-}
-
 fn of_pairs(low: u16, high: u16) -> u32
     ensures { result ≡ low + 65536 * high }
 {
-    low as u32 + 65536 * high as u32
+    u32::from(low) + 65536 * u32::from(high)
 }
 
 // The number of the 2 bytes at a position, which are there.
@@ -33,7 +27,7 @@ fn pair(s: &[u8], at: usize) -> u16
     requires { at + 2 ≤ length s.now }
     ensures { result ≡ number 2 s.now at }
 {
-    of_bytes(s[at], s[at + 1])
+    u16::from_le_bytes([s[at], s[at + 1]])
 }
 
 // The number at a position, in 2 bytes and in 4. Bytes past the end count as 0.
@@ -44,7 +38,7 @@ pub fn get2(s: &[u8], at: usize) -> u16
         return pair(s, at);
     }
     if at < s.len() {
-        return of_bytes(s[at], 0);
+        return u16::from_le_bytes([s[at], 0]);
     }
     0
 }
@@ -70,24 +64,26 @@ fn put_pair(s: &mut [u8], at: usize, x: u32)
     s[at + 1] = (x / 256 % 256) as u8;
 }
 
-// Writes a number at a position, in 2 bytes and in 4, and returns 0. Where it runs past the end, returns 8 and writes nothing.
-pub fn put2(s: &mut [u8], at: usize, x: u16) -> u8
-    ensures { (result ≡ put_answer 2 s.old at) × (s.new ≡ after_put 2 s.old at x) }
+// Writes a number at a position, in 2 bytes and in 4. Where it runs past the end it is refused with 8, and nothing is written.
+pub fn put2(s: &mut [u8], at: usize, x: u16) -> Result<(), Refusal>
+    ensures answer { answered result ≡ put_answer 2 s.old at }
+    ensures bytes { s.new ≡ after_put 2 s.old at x }
 {
     if short(s.len(), at, 2) {
-        return NO_ROOM;
+        return Err(Refusal::BufferShort);
     }
-    put_pair(s, at, x as u32);
-    0
+    put_pair(s, at, u32::from(x));
+    Ok(())
 }
 
-pub fn put4(s: &mut [u8], at: usize, x: u32) -> u8
-    ensures { (result ≡ put_answer 4 s.old at) × (s.new ≡ after_put 4 s.old at x) }
+pub fn put4(s: &mut [u8], at: usize, x: u32) -> Result<(), Refusal>
+    ensures answer { answered result ≡ put_answer 4 s.old at }
+    ensures bytes { s.new ≡ after_put 4 s.old at x }
 {
     if short(s.len(), at, 4) {
-        return NO_ROOM;
+        return Err(Refusal::BufferShort);
     }
     put_pair(s, at, x);
     put_pair(s, at + 2, x / 65536);
-    0
+    Ok(())
 }

@@ -18,19 +18,16 @@ whole_list sizes long =
       in_list = record { desks_most = sizes.desks_most; piles_most = sizes.piles_most; long = le_of_eq (sym long) };
     }
 
--- places by how many numbers the list has for a pile, as code computes it
-module _ (n k : ℕ) {size : ℕ} (is : size ≡ 3 + 2 * n) where
-  place_is : k * size ≡ k * (3 + 2 * n)
-  place_is = ap (λ (x : ℕ). k * x) is
+-- by where the numbers of pile k start
+module _ (n k : ℕ) {place : ℕ} (is : place ≡ k * (3 + 2 * n)) where
+  -- all of them are there
+  pub pile_there : {l : List ℕ} → InList n (k + 1) l → place + (3 + 2 * n) ≤ length l
+  pile_there all = omega (arith, is, all.long)
 
-  -- the numbers of pile k are all there
-  pub pile_there : {l : List ℕ} → InList n (k + 1) l → k * size + (3 + 2 * n) ≤ length l
-  pile_there all = omega (arith, place_is, all.long)
-
-  pub given_at : (l : List ℕ) (c : ℕ) → get_or l (k * size + c) 0 ≡ given n l k c
+  pub given_at : (l : List ℕ) (c : ℕ) → get_or l (place + c) 0 ≡ given n l k c
   unfolding given
-  given_at l c = ap (λ (j : ℕ). get_or l (j + c) 0) place_is
+  given_at l c = ap (λ (j : ℕ). get_or l (j + c) 0) is
 
-  -- its own number is the first of them
-  pub given_number : (l : List ℕ) → get_or l (k * size) 0 ≡ given n l k 0
-  given_number l = ap (λ (j : ℕ). get_or l j 0) (sym (add-zero (k * size))) ∙ given_at l 0
+  -- the pile's own number is the first of them
+  pub given_number : (l : List ℕ) → get_or l place 0 ≡ given n l k 0
+  given_number l = ap (λ (j : ℕ). get_or l j 0) (sym (add-zero place)) ∙ given_at l 0

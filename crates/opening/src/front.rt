@@ -6,7 +6,7 @@ ghost use Rattle.rules.specs.Layout.{head_for, front_length, body_bytes, entry_b
 ghost use Rattle.rules.specs.Opening.{given, given_pile};
 ghost use Rattle.opening.specs.Inner.{FrontReady, BodiesReady};
 
-use crate::given::{given_length, given_pile};
+use crate::given::{given_pile, given_place};
 use layout::contents::{put_entry, put_head};
 use layout::head::{front_length, head_for};
 use layout::lengths::body_length;
@@ -18,11 +18,8 @@ fn put_contents(out: &mut [u8], n: u8, p: u8, numbers: &[u32])
     ensures { out.new ≡ sets out.old 4 (flat p (entry_bytes (head_for n p) (λ k. given n numbers.now k 0))) }
 {
     let head = head_for(n, p);
-    let length = given_length(n);
-    let mut k: u8 = 0;
-    while k < p {
-        put_entry(out, head, k, numbers[k as usize * length] as u16);
-        k += 1;
+    for k in 0..p {
+        put_entry(out, head, k, numbers[given_place(n, k)] as u16).unwrap();
     }
 }
 
@@ -31,7 +28,7 @@ pub(crate) fn put_front(out: &mut [u8], n: u8, p: u8, numbers: &[u32])
     requires { FrontReady n p numbers.now out.old }
     ensures { out.new ≡ sets out.old 0 (front_bytes (head_for n p) (λ k. given n numbers.now k 0)) }
 {
-    put_head(out, head_for(n, p));
+    put_head(out, head_for(n, p)).unwrap();
     put_contents(out, n, p, numbers);
 }
 
@@ -42,13 +39,9 @@ pub(crate) fn put_bodies(out: &mut [u8], n: u8, p: u8, numbers: &[u32])
 {
     let size = body_length(n);
     let mut at = front_length(head_for(n, p));
-    let mut k: u8 = 0;
-    while k < p {
-        let given = given_pile(numbers, n, k);
-        let pile = given.pile;
-        let record = pile.numbers();
-        pack(&record, out, at);
+    for k in 0..p {
+        let pile = given_pile(numbers, n, k).unwrap();
+        pack(&pile.numbers(), out, at).unwrap();
         at += size;
-        k += 1;
     }
 }

@@ -24,11 +24,31 @@ use Rattle.rules.proofs.Loops.Sets.{part_sets}
 use Rattle.rules.proofs.Pile.Agree.{Agree, answer_cong}
 use Rattle.rules.proofs.File.Body.{Fits, lawful_fits, column_below, length_body, read_body}
 use Rattle.rules.proofs.Record.Facts.{RecordFacts, record_facts}
+use Rattle.std.specs.Prelude.{Result, Ok, Err}
+use Rattle.std.specs.Result.{result_eq}
+use denote.Enum.Bare.{sameb, same_true, same_false}
+use Rattle.refusal.specs.contracts.Refusal.{the_type}
+use Rattle.refusal.specs.declared.Refusal.{Refusal}
+use Rattle.refusal.specs.declared.Refusal.TheVariants.{OpeningUnlawful}
+use Rattle.refusal.specs.Answers.{number_of, answered}
 use Rattle.audit.specs.Audits.{bodies_answer}
 use Rattle.audit.proofs.Audits.{shape_fits}
 use Rattle.layout.proofs.Short.{body_most}
 use Rattle.padding.specs.Lists.{record_length, numbers_record, pack_answer, after_pack, list_answer}
 use Rattle.padding.proofs.Cells.{record_cell_lem}
+
+only_5 : (e : Refusal) → number_of e ≡ 5 → e ≡ OpeningUnlawful
+only_5 e is = grind arith
+
+-- what `== Err(OpeningUnlawful)` tells of an answer
+module _ (same : Unit {0} → Unit {0} → Bool) where
+  pub told_5 : (r : Result (Unit {0}) Refusal) → result_eq same (sameb the_type) r (Err OpeningUnlawful) ≡ true → answered r ≡ 5
+  told_5 (Ok x) e = cc
+  told_5 (Err refusal) e = ap number_of (same_true the_type tt refusal OpeningUnlawful e)
+
+  pub not_told_5 : (r : Result (Unit {0}) Refusal) → result_eq same (sameb the_type) r (Err OpeningUnlawful) ≡ false → answered r ≢ 5
+  not_told_5 (Ok x) e is = cc
+  not_told_5 (Err refusal) e is = same_false the_type refusal OpeningUnlawful e (only_5 refusal is)
 
 -- the lines of a body's table and of a record's, by what each test says: opening, unused shares, tallies, unused places, rights
 abbrev body_lines : Bool → Bool → Bool → ℕ
@@ -122,12 +142,15 @@ module _ (l : List ℕ) (passes : list_answer l ≡ 0) where
   packed_agrees {body} packed =
       read_body (get_or l 0 0) (record_view R) (lawful_fits _ _ list_facts.pile) body 0 (packed_bytes_lem l list_facts.desks_most packed list_packs)
 
-module _ (l : List ℕ) (small : (k : ℕ) → get_or l k 0 < 4294967296) (sized : length l ≡ record_length) (some : 1 ≤ get_or l 0 0) (few : get_or l 0 0 ≤ 8) where
+module _ (l : List ℕ) (small : (k : ℕ) → get_or l k 0 < 4294967296) (packs : pack_answer l 0 648 ≡ 0) where
   abbrev n : ℕ
   n = get_or l 0 0
 
   abbrev P : Pile
   P = record_view (numbers_record l)
+
+  few : n ≤ 8
+  few = pack_few l packs
 
   cell_small : (r c : ℕ) → r < 9 → c < row_places → record_cell (numbers_record l) r c < 4294967296
   cell_small r c r<9 c<row = rw (record_cell_lem l r c r<9 c<row) (small _)
@@ -137,9 +160,9 @@ module _ (l : List ℕ) (small : (k : ℕ) → get_or l k 0 < 4294967296) (sized
       record {
         floor = cell_small 0 0 (lit< tt) (lit< tt);
         top = cell_small 0 1 (lit< tt) (lit< tt);
-        share = λ s i i<n. cell_small 0 (column 8 s i) (lit< tt) (column_below 8 s i (omega arith));
-        earned = λ s i i<n. earned s i (omega arith);
-        give = λ s i j i<n j<n. cell_small (suc i) (column 8 s j) (omega arith) (column_below 8 s j (omega arith));
+        share = λ s i i<n. cell_small 0 (column 8 s i) (lit< tt) (column_below 8 s i (omega (arith, few)));
+        earned = λ s i i<n. earned s i (omega (arith, few));
+        give = λ s i j i<n j<n. cell_small (suc i) (column 8 s j) (omega (arith, few)) (column_below 8 s j (omega (arith, few)));
       }
     where
       earned : (s : Side) (i : ℕ) → i < 8 → P.earned s i < 4294967296
@@ -147,10 +170,10 @@ module _ (l : List ℕ) (small : (k : ℕ) → get_or l k 0 < 4294967296) (sized
       earned tip i i<8 = cell_small (suc i) 1 (omega arith) (lit< tt)
 
   -- the body that the list packs to
-  module _ {body : List ℕ} {size m : ℕ} (packed : body ≡ after_pack l 0 (replicate 648 0)) (done : pack_answer l 0 648 ≡ 0) (is : size ≡ body_length n)
+  module _ {body : List ℕ} {size m : ℕ} (packed : body ≡ after_pack l 0 (replicate 648 0)) (is : size ≡ body_length n)
       (judged : m ≡ bodies_answer n 1 0 (part 0 size body)) where
     written : part 0 size body ≡ body_bytes n P
-    written = rw is (packed_bytes_lem l few packed done)
+    written = rw is (packed_bytes_lem l (pack_few l packs) packed packs)
 
     at_start : part (0 + 0 * body_length n) (body_length n) (part 0 size body) ≡ body_bytes n P
     at_start =
@@ -161,28 +184,28 @@ module _ (l : List ℕ) (small : (k : ℕ) → get_or l k 0 < 4294967296) (sized
     unfolding bodies_answer first ◌or_else◌
     body_answer =
         judged
-        ∙ or_else_passes (sym (shape_fits n 1 0 (length (part 0 size body)) (some, few) (lit≤ tt) (ap length written ∙ length_body n P ∙ omega arith))) _
+        ∙ or_else_passes (sym (shape_fits n 1 0 (length (part 0 size body)) (pack_some l packs, pack_few l packs) (lit≤ tt) (ap length written ∙ length_body n P ∙ omega arith))) _
         ∙ answer_cong n _ P (read_body n P fits (part 0 size body) (0 + 0 * body_length n) at_start)
 
   -- the lines of a list's table
   module _ {m : ℕ} (is : m ≡ pile_answer n P) where
     as_record_lem : list_answer l ≡ record_lines (opening_lawful n P) (unused_shares n P) (every n (tallies_lawful n P)) (unused_places n P) (lawful n P)
     unfolding list_answer record_answer numbers_record between ◌when◌ ◌or_else◌ ◌and◌
-    as_record_lem = rw (eq-eqb _ _ sized, le-leb _ _ some, le-leb _ _ few)
+    as_record_lem = rw (eq-eqb _ _ (pack_sized l packs), le-leb _ _ (pack_some l packs), le-leb _ _ few)
 
     pub unlawful_opening : m ≡ 5 → 5 ≡ list_answer l
     unfolding pile_answer
     unlawful_opening e = opening_5 (opening_lawful n P) _ (every n (tallies_lawful n P)) _ (lawful n P) (sym is ∙ e) ∙ sym as_record_lem
 
-    module _ (other : m ≢ 5) where
-      pub share_left : unused_shares n P ≡ false → 5 ≡ list_answer l
-      share_left e = rw (as_record_lem, e) (shares_5 (opening_lawful n P) (every n (tallies_lawful n P)) (unused_places n P) (lawful n P))
+    pub share_left : {desks : ℕ} → desks ≡ n → unused_shares desks P ≡ false → 5 ≡ list_answer l
+    share_left same e = rw (as_record_lem, rw same at e) (shares_5 (opening_lawful n P) (every n (tallies_lawful n P)) (unused_places n P) (lawful n P))
 
-      module _ (none : unused_shares n P ≡ true) where
-        pub place_left : unused_places n P ≡ false → 6 ≡ list_answer l
-        unfolding pile_answer
-        place_left e = rw (as_record_lem, none, e) (places_6 (opening_lawful n P) (every n (tallies_lawful n P)) (lawful n P) (λ z. other (is ∙ z)))
+    module _ (other : m ≢ 5) {desks : ℕ} (same : desks ≡ n) (none : unused_shares desks P ≡ true) where
+      pub place_left : unused_places desks P ≡ false → 6 ≡ list_answer l
+      unfolding pile_answer
+      place_left e =
+          rw (as_record_lem, rw same at none, rw same at e) (places_6 (opening_lawful n P) (every n (tallies_lawful n P)) (lawful n P) (λ z. other (is ∙ z)))
 
-        pub as_body : unused_places n P ≡ true → m ≡ list_answer l
-        unfolding pile_answer
-        as_body e = rw (as_record_lem, none, e) (is ∙ all_used (opening_lawful n P) (every n (tallies_lawful n P)) (lawful n P))
+      pub as_body : unused_places desks P ≡ true → m ≡ list_answer l
+      unfolding pile_answer
+      as_body e = rw (as_record_lem, rw same at none, rw same at e) (is ∙ all_used (opening_lawful n P) (every n (tallies_lawful n P)) (lawful n P))

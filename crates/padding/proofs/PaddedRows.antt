@@ -12,14 +12,16 @@ use lib.Dec.{lit<}
 use lib.Seq.{sets, length-sets, ext_get_or}
 use borrow.Author.Count.{below_more}
 use Rattle.rules.specs.Loops.{list}
+use Rattle.rules.specs.Numbers.{number}
 use Rattle.rules.specs.Pile.{Side, draw, tip, Pile}
-use Rattle.rules.specs.Layout.{desk_limit, earned_column, column, view}
+use Rattle.rules.specs.Layout.{desk_limit, row_length, cell_at, earned_column, column, view}
 use Rattle.rules.specs.Record.{Record, padded, record_of, record_cell, row_places, tips_place}
 use Rattle.rules.proofs.Loops.Pieces.{length_list, getD_list}
 use Rattle.rules.proofs.Loops.Sets.{getD_sets_in, getD_sets_other}
 use Rattle.rules.proofs.File.Body.{by_column}
 use Rattle.rules.proofs.Record.RecordOf.{padded_used, padded_unused, length_shares, length_tallies, share_place, earned_place, give_place}
 use Rattle.padding.specs.Lists.{body_numbers}
+use Rattle.padding.proofs.Halves.{front_is}
 use Rattle.padding.proofs.RecordLists.{length_numbers, cell_of}
 
 -- what stands in a list after a run of m numbers was read into it
@@ -83,7 +85,7 @@ module _ (n : ℕ) (cell : ℕ → ℕ → ℕ) where
         earned s = earned_place n pile s i (omega arith) ∙ padded_unused n (pile.earned s) i (omega arith)
 
     -- the next row: a run of its first numbers and its draw half, and one of its tip half
-    pub next_row : {l : List ℕ} (r : ℕ) (f g : ℕ → ℕ) → r ≤ n → Rows r l → ((c : ℕ) → f c ≡ cell r c) → ((j : ℕ) → g j ≡ cell r (column n tip j))
+    next_row : {l : List ℕ} (r : ℕ) (f g : ℕ → ℕ) → r ≤ n → Rows r l → ((c : ℕ) → f c ≡ cell r c) → ((j : ℕ) → g j ≡ cell r (column n tip j))
         → Rows (r + 1) (sets (sets l (r * row_places) (list (2 + n) f)) (r * row_places + tips_place) (list n g))
     next_row {l} r f g r≤n rows firsts tips =
         record {
@@ -144,3 +146,14 @@ module _ (n : ℕ) (cell : ℕ → ℕ → ℕ) where
             by_cases (dec_lt r m) (λ r<m. rows.cells r c r<m c<18)
             (λ r≥m. rows.rest (r * row_places + c) (omega arith) (omega arith) ∙ sym (past_cells r c (omega arith) r<9 c<18))
             ∙ sym (cell_of wide (length_shares n pile) r c c<18)
+
+-- row r of the body at a position, read in its two runs
+pub next_padded : (n at : ℕ) (b : List ℕ) {r row front from next m desks : ℕ} {before between after : List ℕ} → n ≤ desk_limit
+    → Rows n (λ row column. number 4 b (at + cell_at n row column)) r before → r ≤ n → front ≡ column n tip 0 → from ≡ cell_at n r 0 → next ≡ cell_at n r front
+    → row ≡ r → m ≡ front → desks ≡ n → between ≡ sets before (row * row_places) (list m (λ k. number 4 b (at + from + k * 4)))
+    → after ≡ sets between (row * row_places + tips_place) (list desks (λ k. number 4 b (at + next + k * 4)))
+    → Rows n (λ row column. number 4 b (at + cell_at n row column)) (r + 1) after
+unfolding cell_at row_length
+next_padded n at b {r} n≤8 rows r≤n is here behind same size all first second =
+    rw (second, first, same, size ∙ front_is n is, all)
+    (next_row n _ n≤8 r _ _ r≤n rows (λ c. ap (number 4 b) (omega (arith, here))) (λ j. ap (number 4 b) (omega (arith, behind, is))))

@@ -6,7 +6,9 @@ use mathlib.Core.Path.{◌≡◌, ap, sym, ◌∙◌}
 use mathlib.Core.List.{List, ◌++◌, append_assoc}
 use lib.ListN.{length, take, drop}
 use lib.Seq.{sets, sets-eq, drop-drop}
-use Rattle.rules.specs.Numbers.{bytes, part, after_put}
+use borrow.Author.Tests.{le-ltb}
+use Rattle.rules.specs.Numbers.{bytes, part, put_answer, after_put}
+use Rattle.rules.proofs.Loops.Refusals.{not_met}
 use Rattle.rules.proofs.Loops.Parts.{length_part}
 use Rattle.rules.proofs.Loops.Sets.{sets_to_end}
 use Rattle.rules.proofs.Bytes.Numbers.{length_bytes}
@@ -17,7 +19,11 @@ back_in_place l at m v long fits =
     ap (λ (rest : List ℕ). take at l ++ (v ++ rest)) (drop-drop m at l ∙ ap (λ (k : ℕ). drop (at + k) l) (sym long))
     ∙ sym (append_assoc (take at l) v (drop (at + length v) l)) ∙ sym (sets-eq v l at (omega arith))
 
--- a number put into the part of its four bytes
+-- a number put into the part of its four bytes has room there
+pub part_has_room : (l : List ℕ) (at m : ℕ) → m ≡ 4 → at + m ≤ length l → put_answer 4 (part at m l) 0 ≡ 0
+unfolding put_answer
+part_has_room l at m is-4 fits = not_met 8 (le-ltb _ _ (omega (arith, length_part at m l fits)))
+
 pub put_in_part : (l : List ℕ) (at m x : ℕ) {four : List ℕ} → four ≡ after_put 4 (part at m l) 0 x → m ≡ 4 → at + m ≤ length l
     → take at l ++ (four ++ drop m (drop at l)) ≡ sets l at (bytes 4 x)
 put_in_part l at m x e is-4 fits =

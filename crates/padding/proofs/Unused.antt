@@ -4,11 +4,11 @@ use Prim.Native.Nat.{ℕ, suc, ◌+◌, ◌-◌, ◌*◌, ◌/◌, ◌%◌, ◌�
 use native.Mathlib.Nat.{mod-lt, div-add-mod', div-lt_iff_lt-mul}
 use native.Mathlib.Decide.{dec_lt}
 use native.Mathlib.Omega.{arith}
-use mathlib.Core.Path.{◌≡◌, ap, sym, ◌∙◌}
+use mathlib.Core.Path.{◌≡◌, ap, ap₂, sym, ◌∙◌}
 use mathlib.Core.Logic.{◌⊎◌, inl, inr, ⊎_elim, by_cases}
 use mathlib.Core.Bool.{Bool, true}
 use mathlib.Core.List.{List}
-use lib.ListN.{get_or}
+use lib.ListN.{length, get_or}
 use lib.Dec.{lit<, eqb}
 use borrow.Author.Tests.{eqb-true, eq-eqb, lt-ltb}
 use Rattle.rules.specs.Loops.{◌and◌, every}
@@ -16,11 +16,13 @@ use Rattle.rules.specs.Pile.{Side, draw, tip, Pile}
 use Rattle.rules.specs.Layout.{column, earned_column}
 use Rattle.rules.specs.Record.{Record, record_cell, record_view, unused_shares, unused_places, row_places, tips_place}
 use Rattle.rules.proofs.Loops.Logic.{same, and_left, and_right, and_both, or_first, or_second}
-use Rattle.rules.proofs.Loops.Every.{every_at, every_all}
+use Rattle.rules.proofs.Loops.Every.{every_at, every_all, every_cong}
 use Rattle.rules.proofs.Pile.Facts.{both_all}
 use Rattle.rules.proofs.File.Body.{by_column, column_below}
 use Rattle.rules.proofs.Record.Unused.{unused_share, unused_earned, unused_give}
-use Rattle.padding.specs.Lists.{numbers_record}
+use Rattle.rules.specs.Numbers.{part}
+use Rattle.rules.proofs.Loops.Parts.{length_part, get_d_part}
+use Rattle.padding.specs.Lists.{tallies_at, numbers_record}
 use Rattle.padding.proofs.Cells.{record_cell_lem}
 
 -- where a row's gives or shares of a side start
@@ -37,11 +39,28 @@ row_padding l n at = side_padding l n at draw and side_padding l n at tip
 
 -- where the row of desk i starts
 abbrev pub row_at : ℕ → ℕ
-row_at i = 1 + (i + 1) * row_places
+row_at i = tallies_at + i * row_places
 
 -- the rows from desk n on, as one range
 abbrev pub rows_past : List ℕ → ℕ → Bool
 rows_past l n = every ((8 - n) * row_places) (λ k. eqb (get_or l (row_at n + k) 0) 0)
+
+-- the same tests of a part of the list, which was taken out as a list of its own
+module _ (l : List ℕ) (at size : ℕ) {b : Bool} where
+  pub part_zero : {m : ℕ} → b ≡ every (length (part at size l)) (λ k. eqb (get_or (part at size l) k 0) 0) → size ≡ m → at + m ≤ length l
+      → b ≡ every m (λ k. eqb (get_or l (at + k) 0) 0)
+  part_zero {m} tested is fits =
+      tested ∙ rw (is, length_part at m l fits) (every_cong m (λ k k<m. ap (λ (x : ℕ). eqb x 0) (get_d_part at m l k k<m)))
+
+  pub part_padding : (n : ℕ) → b ≡ row_padding (part at size l) n 0 → size ≡ row_places → b ≡ row_padding l n at
+  part_padding n tested is = tested ∙ rw is (ap₂ ◌and◌ (side draw) (side tip))
+    where
+      cell : (k place : ℕ) → k < row_places → at + k ≡ place → eqb (get_or (part at row_places l) k 0) 0 ≡ eqb (get_or l place 0) 0
+      cell k place k<row e = ap (λ (x : ℕ). eqb x 0) (get_d_part at row_places l k k<row ∙ ap (λ (q : ℕ). get_or l q 0) e)
+
+      side : (s : Side) → side_padding (part at row_places l) n 0 s ≡ side_padding l n at s
+      side draw = every_cong (8 - n) (λ k m. cell _ _ (omega arith) (omega arith))
+      side tip = every_cong (8 - n) (λ k m. cell _ _ (omega arith) (omega arith))
 
 module _ (l : List ℕ) (n : ℕ) (n≤8 : n ≤ 8) where
   abbrev R : Record

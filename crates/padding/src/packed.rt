@@ -7,19 +7,17 @@ ghost use Rattle.padding.specs.Inner.{RunFits, RowsFit, packed_row};
 
 use crate::{OPENING_AT, ROW, TIPS};
 use layout::cells::{cell_at, side_column};
-use layout::lengths::{NUMBER, row_length};
+use layout::lengths::NUMBER;
 use number::put4;
 
-// Writes count numbers of a list, from a place on, into bytes from a position on.
+// Writes count numbers of a list, from a place on, into bytes from a position on. Into a part of 4 bytes a number is written without a test.
 fn pack_run(bytes: &mut [u8], at: usize, numbers: &[u32], from: usize, count: usize)
     requires { RunFits at (count * 4) bytes.old from count numbers.now }
     ensures { bytes.new ≡ sets bytes.old at (encode (list count (λ k. get_or numbers.now (from + k) 0))) }
 {
-    let mut k = 0;
-    while k < count {
+    for k in 0..count {
         let to = at + k * NUMBER;
-        put4(&mut bytes[to..to + NUMBER], 0, numbers[from + k]);
-        k += 1;
+        put4(&mut bytes[to..to + NUMBER], 0, numbers[from + k]).unwrap();
     }
 }
 
@@ -30,16 +28,21 @@ pub(crate) fn pack_rows(bytes: &mut [u8], at: usize, numbers: &[u32], n: u8)
 {
     // As many columns stand before those of tip.
     let front = side_column(n, 1, 0);
-    let tips = cell_at(n, 0, front);
-    let size = row_length(n);
-    let desks = n as usize;
-    let mut to = at;
-    let mut r = 0;
-    while r <= desks {
-        let from = OPENING_AT + r * ROW;
-        pack_run(bytes, to, numbers, from, front as usize);
-        pack_run(bytes, to + tips, numbers, from + TIPS, desks);
-        to += size;
-        r += 1;
+    for r in 0..=n {
+        let from = OPENING_AT + usize::from(r) * ROW;
+        pack_run(
+            bytes,
+            at + cell_at(n, r, 0),
+            numbers,
+            from,
+            usize::from(front),
+        );
+        pack_run(
+            bytes,
+            at + cell_at(n, r, front),
+            numbers,
+            from + TIPS,
+            usize::from(n),
+        );
     }
 }

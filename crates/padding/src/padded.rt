@@ -1,5 +1,5 @@
 // A body of n desks read into a record's places: 8 for each kind of shares and gives, of which those past n are 0.
-ghost use Rattle.std.specs.Prelude.{◌≡◌, ◌+◌, ◌*◌, length, replicate};
+ghost use Rattle.std.specs.Prelude.{◌≡◌, ◌+◌, ◌*◌};
 ghost use Rattle.std.proofs.lemmas.List.Edits.{sets};
 ghost use Rattle.rules.specs.Loops.{list};
 ghost use Rattle.rules.specs.Numbers.{number};
@@ -10,30 +10,17 @@ ghost use Rattle.padding.specs.Lists.{body_numbers};
 
 use crate::{ROW, TIPS};
 use layout::cells::{cell_at, side_column};
-use layout::lengths::{NUMBER, row_length};
+use layout::lengths::NUMBER;
 use number::get4;
-
-// Sets all numbers of a list to 0.
-pub(crate) fn clear(out: &mut [u32])
-    ensures { out.new ≡ replicate (length out.old) 0 }
-{
-    let mut k = 0;
-    while k < out.len() {
-        out[k] = 0;
-        k += 1;
-    }
-}
 
 // Reads count numbers from a position on into the places of a list from one on. Of a part of 4 bytes a number is read without a test.
 fn pad_run(out: &mut [u32], to: usize, bytes: &[u8], from: usize, count: usize)
     requires { RunFits to count out.old from (count * 4) bytes.now }
     ensures { out.new ≡ sets out.old to (list count (λ k. number 4 bytes.now (from + k * 4))) }
 {
-    let mut k = 0;
-    while k < count {
+    for k in 0..count {
         let at = from + k * NUMBER;
         out[to + k] = get4(&bytes[at..at + NUMBER], 0);
-        k += 1;
     }
 }
 
@@ -44,16 +31,15 @@ pub(crate) fn pad_rows(out: &mut [u32], bytes: &[u8], n: u8, at: usize)
 {
     // As many columns stand before those of tip.
     let front = side_column(n, 1, 0);
-    let tips = cell_at(n, 0, front);
-    let size = row_length(n);
-    let desks = n as usize;
-    let mut from = at;
-    let mut r = 0;
-    while r <= desks {
-        let to = r * ROW;
-        pad_run(out, to, bytes, from, front as usize);
-        pad_run(out, to + TIPS, bytes, from + tips, desks);
-        from += size;
-        r += 1;
+    for r in 0..=n {
+        let to = usize::from(r) * ROW;
+        pad_run(out, to, bytes, at + cell_at(n, r, 0), usize::from(front));
+        pad_run(
+            out,
+            to + TIPS,
+            bytes,
+            at + cell_at(n, r, front),
+            usize::from(n),
+        );
     }
 }

@@ -4,34 +4,27 @@ ghost use Rattle.rules.specs.Loops.{◌and◌, every};
 ghost use Rattle.rules.specs.Record.{record_view, unused_shares, unused_places};
 ghost use Rattle.padding.specs.Lists.{numbers_record, record_length};
 
-use crate::{OPENING_AT, ROW, TIPS};
-use layout::limits::DESKS;
+use crate::{OPENING_AT, RECORD, ROW, TALLIES_AT, TIPS};
 
-// Are all of count numbers from a place on 0? Nothing leaves the loop, so that the compiler does several at once.
-fn all_zero(numbers: &[u32], from: usize, count: usize) -> bool
-    requires { from + count ≤ length numbers.now }
-    ensures { result ≡ every count (λ k. eqb (get_or numbers.now (from + k) 0) 0) }
+// Are all numbers of a list 0? Nothing leaves the loop, so that the compiler does several at once.
+fn all_zero(numbers: &[u32]) -> bool
+    ensures { result ≡ every (length numbers.now) (λ k. eqb (get_or numbers.now k 0) 0) }
 {
     let mut zero = true;
-    let mut k = 0;
-    while k < count {
-        if numbers[from + k] != 0 {
+    for number in numbers {
+        if *number != 0 {
             zero = false;
         }
-        k += 1;
     }
     zero
 }
 
-// Is a row that starts at a place 0 past n, in its draw half and in its tip half?
-fn row_padding_zero(numbers: &[u32], at: usize, n: usize) -> bool
-    requires { (n ≤ 8) × (at + 18 ≤ length numbers.now) }
-    ensures { result ≡ every (8 - n) (λ k. eqb (get_or numbers.now (at + 2 + n + k) 0) 0) and every (8 - n) (λ k. eqb (get_or numbers.now (at + 10 + n + k) 0) 0) }
+// Is a row 0 past n, in its draw half and in its tip half?
+fn row_padding_zero(row: &[u32], n: usize) -> bool
+    requires { (n ≤ 8) × (length row.now ≡ 18) }
+    ensures { result ≡ every (8 - n) (λ k. eqb (get_or row.now (2 + n + k) 0) 0) and every (8 - n) (λ k. eqb (get_or row.now (10 + n + k) 0) 0) }
 {
-    if !all_zero(numbers, at + 2 + n, DESKS - n) {
-        return false;
-    }
-    all_zero(numbers, at + TIPS + n, DESKS - n)
+    all_zero(&row[2 + n..TIPS]) && all_zero(&row[TIPS + n..ROW])
 }
 
 // The shares past n.
@@ -39,20 +32,19 @@ pub(crate) fn opening_padding_zero(numbers: &[u32], n: usize) -> bool
     requires { (n ≤ 8) × (length numbers.now ≡ record_length) }
     ensures { result ≡ unused_shares n (record_view (numbers_record numbers.now)) }
 {
-    row_padding_zero(numbers, OPENING_AT, n)
+    row_padding_zero(&numbers[OPENING_AT..TALLIES_AT], n)
 }
 
-// The gives to desks past n, and the rows of those desks.
+// The gives to desks past n, and the rows of those desks. A loop, since a closure for `all` would have to ask of its rows what the test asks.
 pub(crate) fn rows_padding_zero(numbers: &[u32], n: usize) -> bool
     requires { (n ≤ 8) × (length numbers.now ≡ record_length) }
     ensures { result ≡ unused_places n (record_view (numbers_record numbers.now)) }
 {
-    let mut i = 0;
-    while i < n {
-        if !row_padding_zero(numbers, OPENING_AT + (i + 1) * ROW, n) {
+    for i in 0..n {
+        let at = TALLIES_AT + i * ROW;
+        if !row_padding_zero(&numbers[at..at + ROW], n) {
             return false;
         }
-        i += 1;
     }
-    all_zero(numbers, OPENING_AT + (n + 1) * ROW, (DESKS - n) * ROW)
+    all_zero(&numbers[TALLIES_AT + n * ROW..RECORD])
 }

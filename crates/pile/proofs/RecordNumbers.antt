@@ -6,25 +6,22 @@ use native.Mathlib.Omega.{arith}
 use mathlib.Core.Path.{◌≡◌, refl, ap, ap₂, ◌∙◌}
 use mathlib.Core.Logic.{◌≢◌}
 use mathlib.Core.Bool.{Bool, true, false}
-use mathlib.Core.List.{List, [], ◌∷◌}
+use mathlib.Core.List.{List, ◌∷◌}
 use lib.ListN.{length, get_or, take, replicate, length-replicate, length-append}
+use borrow.Rule.Slice.PartMut.{put_mid}
+use Rattle.std.proofs.Common.{append-nil}
 use lib.Seq.{sets, take_all, take_at, drop_at}
 use lib.Dec.{leb, lit≤}
 use borrow.Author.Tests.{leb-true, leb-false, le-ltb, lt-ltb}
 use Rattle.rules.specs.Loops.{◌and◌, between}
 use Rattle.rules.specs.Refusals.{◌when◌, ◌or_else◌}
-use Rattle.rules.specs.Numbers.{part}
 use Rattle.rules.specs.Layout.{desk_limit, body_length, body_view}
 use Rattle.rules.specs.Record.{Record, share_places, tally_places, zero_record, record_of, body_record}
 use Rattle.rules.proofs.Loops.Logic.{and_left, and_right}
 use Rattle.rules.proofs.Loops.Refusals.{when_accepted, when_refused}
-use Rattle.rules.proofs.Loops.Parts.{length_part}
-use Rattle.rules.proofs.Loops.Sets.{sets_then, sets_to_end}
+use Rattle.rules.proofs.Loops.Sets.{sets_to_end}
 use Rattle.rules.proofs.Record.RecordOf.{length_shares, length_tallies}
-use Rattle.padding.specs.Lists.{shares_at, tallies_at, record_length, body_numbers, record_numbers, numbers_record, pad_answer, after_pad}
-
-pub whole_run : (l : List ℕ) (at m : ℕ) → at + m ≤ length l → sets (replicate m 0) 0 (part at m l) ≡ part at m l
-whole_run l at m fits = sets_to_end (replicate m 0) 0 (part at m l) (omega (arith, length_part at m l fits, length-replicate {A = ℕ} m 0))
+use Rattle.padding.specs.Lists.{record_length, body_numbers, record_numbers, numbers_record, pad_answer, after_pad}
 
 module _ (r : Record) (shares : length r.shares ≡ share_places) (tallies : length r.tallies ≡ tally_places) where
   pub length_record : length (record_numbers r) ≡ record_length
@@ -35,13 +32,12 @@ module _ (r : Record) (shares : length r.shares ≡ share_places) (tallies : len
   all_numbers : sets (replicate record_length 0) 0 (record_numbers r) ≡ record_numbers r
   all_numbers = sets_to_end (replicate record_length 0) 0 (record_numbers r) (omega (arith, length_record, length-replicate {A = ℕ} record_length 0))
 
-  pub three_runs : {two three : List ℕ} → two ≡ sets (sets (replicate record_length 0) 0 (r.n ∷ r.floor ∷ r.top ∷ [])) shares_at (part 0 share_places r.shares)
-      → three ≡ sets two tallies_at (part 0 tally_places r.tallies) → three ≡ record_numbers r
+  -- n, floor and top in a list of zeros, and the shares and the tallies written behind them
+  pub runs_listed : {n : ℕ} {two three : List ℕ} → n ≡ r.n → two ≡ r.shares → three ≡ r.tallies
+      → put_mid 19 144 (put_mid 3 16 (n ∷ r.floor ∷ r.top ∷ replicate 160 0) two) three ≡ record_numbers r
   unfolding record_numbers body_numbers
-  three_runs second third =
-      rw (third, second, take_all share_places r.shares (le_of_eq shares), take_all tally_places r.tallies (le_of_eq tallies))
-      (sets_then (sets (replicate record_length 0) 0 (r.n ∷ r.floor ∷ r.top ∷ [])) shares_at r.shares tallies_at r.tallies (omega arith))
-      ∙ all_numbers
+  runs_listed first second third =
+      rw (first, second, third, take_at r.shares (replicate 144 0) 16 shares, drop_at r.shares (replicate 144 0) 16 shares, append-nil)
 
   -- and they are the record again
   pub numbers_again : numbers_record (record_numbers r) ≡ r

@@ -1,9 +1,10 @@
 -- The answers of the queries as the replies of the rules.
 -- Assumes nothing.
+use Rattle.std.specs.Prelude.{ℕ, Result, Ok, Err}
 use Rattle.rules.specs.Refusals.{Reply, refused, value}
-use Rattle.pile.specs.declared.Amount.{Amount}
-use Rattle.pile.specs.declared.Amount.TheVariants.{Tonnes, Refused}
+use Rattle.refusal.specs.declared.Refusal.{Refusal}
+use Rattle.refusal.specs.Answers.{number_of}
 
-abbrev pub as_reply : Amount → Reply
-as_reply (Tonnes x) = value x
-as_reply (Refused answer) = refused answer
+abbrev pub as_reply : Result ℕ Refusal → Reply
+as_reply (Ok tonnes) = value tonnes
+as_reply (Err refusal) = refused (number_of refusal)

@@ -1,68 +1,64 @@
 // The acts on a record. Tip and draw spend rights of a side, the two gives give them: the side is a parameter, 0 for draw, any other for tip.
-ghost use Rattle.std.specs.Prelude.{◌≡◌, false, ◌+◌, ◌*◌, ◌≤◌, ◌<◌, get_or};
-ghost use Rattle.rules.specs.Pile.{side_of, tally_limit};
+ghost use Rattle.std.specs.Prelude.{◌≡◌, ◌<◌, IfOk};
+ghost use Rattle.std.specs.Result.{result_unwrap_or};
+ghost use Rattle.rules.specs.Pile.{side_of};
 ghost use Rattle.rules.specs.Acts.{Kind, spend, give};
 ghost use Rattle.rules.specs.Layout.{column};
-ghost use Rattle.rules.specs.Record.{record_answer, record_act_answer, record_after_act, row_places};
+ghost use Rattle.rules.specs.Record.{record_act_answer, record_after_act, row_places};
+ghost use Rattle.refusal.specs.Answers.{answered};
 ghost use Rattle.pile.specs.View.{as_record};
 ghost use Rattle.pile.specs.Inner.{Means};
 
-use crate::check::body_of;
-use crate::{Outcome, PLACES, Pile, ROW};
+use crate::queries::rights_of;
+use crate::{Outcome, Pile, ROW};
 use act_lines::{act_refusal, receiver_wrong};
-use audit::rights_in;
+use layout::cells::side_column;
+use refusal::Refusal;
 
-// The answer of an act of a desk that needs rights of a side and adds to the tally at a column of the desk's row.
-pub(crate) fn act_answer(p: Pile, side: u8, desk: u8, wrong: bool, column: usize, amount: u32) -> u8
+// The record after an act of a desk that needs rights of a side and adds to the tally at a column of the desk's row.
+pub(crate) fn enter(
+    p: Pile,
+    side: u8,
+    desk: u8,
+    wrong: bool,
+    column: usize,
+    amount: u32,
+) -> Result<Pile, Refusal>
     requires { column < row_places }
-    ensures answer { (kind : Kind) → Means (as_record p) side desk wrong column kind → result ≡ record_act_answer desk kind amount (as_record p) }
-    ensures room { result ≡ 0 → (record_answer (as_record p) ≡ 0) × (wrong ≡ false) × (desk < 8) × (get_or p.tallies (desk * row_places + column) 0 + amount ≤ tally_limit) }
+    ensures { (kind : Kind) → Means (as_record p) side desk wrong column kind → (answered result ≡ record_act_answer desk kind amount (as_record p)) × IfOk result (λ pile. as_record pile ≡ record_after_act desk kind amount (as_record p)) }
 {
-    let found = body_of(p);
-    let own = found.answer;
-    if own != 0 {
-        return own;
-    }
-    if p.n <= desk {
-        return 11;
-    }
-    let body = found.body;
-    let tallies = p.tallies;
-    act_refusal(
-        wrong,
-        amount,
-        rights_in(&body, 0, p.n, side, desk),
-        tallies[desk as usize * ROW + column],
-    )
-}
-
-// The act itself: its answer, and the record after it, unaltered where it is refused.
-pub(crate) fn enter(p: Pile, side: u8, desk: u8, wrong: bool, column: usize, amount: u32) -> Outcome
-    requires { column < row_places }
-    ensures { (kind : Kind) → Means (as_record p) side desk wrong column kind → (result.answer ≡ record_act_answer desk kind amount (as_record p)) × (as_record result.pile ≡ record_after_act desk kind amount (as_record p)) }
-{
-    let answer = act_answer(p, side, desk, wrong, column, amount);
-    if answer != 0 {
-        return Outcome { answer, pile: p };
-    }
-    let at = (desk as usize) * ROW + column;
+    let rights = rights_of(p, side, desk)?;
+    let at = usize::from(desk) * ROW + column;
+    act_refusal(wrong, amount, u64::from(rights), p.tallies[at])?;
     let mut next = p;
-    next.tallies[at] = next.tallies[at] + amount;
-    Outcome {
-        answer: 0,
-        pile: next,
+    next.tallies[at] += amount;
+    Ok(next)
+}
+
+// The record after an act beside its answer: where it is refused, the record before it.
+fn outcome_of(before: Pile, entered: Result<Pile, Refusal>) -> Outcome
+    ensures answer { answered result.answer ≡ answered entered }
+    ensures pile { result.pile ≡ result_unwrap_or entered before }
+{
+    match entered {
+        Ok(pile) => Outcome {
+            answer: Ok(()),
+            pile,
+        },
+        Err(refusal) => Outcome {
+            answer: Err(refusal),
+            pile: before,
+        },
     }
 }
 
-// Tipping spends tip rights, and drawing draw rights.
+// Tipping spends tip rights, and drawing draw rights: what was tipped stands in column 0, and what was drawn in column 1.
 pub(crate) fn spend_side(p: Pile, side: u8, desk: u8, amount: u32) -> Outcome
-    ensures answer { result.answer ≡ record_act_answer desk (spend (side_of side)) amount (as_record p) }
+    ensures answer { answered result.answer ≡ record_act_answer desk (spend (side_of side)) amount (as_record p) }
     ensures pile { as_record result.pile ≡ record_after_act desk (spend (side_of side)) amount (as_record p) }
 {
-    if side == 0 {
-        return enter(p, side, desk, false, 1, amount);
-    }
-    enter(p, side, desk, false, 0, amount)
+    let column = if side == 0 { 1 } else { 0 };
+    outcome_of(p, enter(p, side, desk, false, column, amount))
 }
 
 // The column of a side's gives to a receiver, where there is one.
@@ -72,18 +68,15 @@ pub(crate) fn give_column(side: u8, receiver: u8) -> usize
     if Pile::DESKS <= receiver {
         return 0;
     }
-    if side == 0 {
-        return 2 + receiver as usize;
-    }
-    2 + (PLACES + receiver as usize)
+    usize::from(side_column(Pile::DESKS, side, receiver))
 }
 
 // A give of a side to a receiver.
 pub(crate) fn give_side(p: Pile, side: u8, desk: u8, receiver: u8, amount: u32) -> Outcome
-    ensures answer { result.answer ≡ record_act_answer desk (give (side_of side) receiver) amount (as_record p) }
+    ensures answer { answered result.answer ≡ record_act_answer desk (give (side_of side) receiver) amount (as_record p) }
     ensures pile { as_record result.pile ≡ record_after_act desk (give (side_of side) receiver) amount (as_record p) }
 {
     let wrong = receiver_wrong(p.n, desk, receiver);
     let column = give_column(side, receiver);
-    enter(p, side, desk, wrong, column, amount)
+    outcome_of(p, enter(p, side, desk, wrong, column, amount))
 }

@@ -1,4 +1,7 @@
 // A record is packed as the body of its n desks, which is judged and asked as those of a book are.
+ghost use Rattle.std.specs.Prelude.{◌≡◌, IfOk};
+ghost use Rattle.rules.specs.Record.{record_answer};
+ghost use Rattle.refusal.specs.Answers.{answered};
 ghost use Rattle.pile.specs.View.{as_record};
 ghost use Rattle.pile.specs.Inner.{PackedAs};
 
@@ -6,22 +9,16 @@ use crate::Pile;
 use crate::lists::numbers_of;
 use layout::lengths::LONGEST_BODY;
 use padding::{check_record, pack};
+use refusal::Refusal;
 
-// A record's own refusal or 0, and its body, at the start of bytes that have room for any.
-#[derive(Clone, Copy)]
-pub(crate) struct Packed {
-    pub answer: u8,
-    pub body: [u8; LONGEST_BODY],
-}
-
-pub(crate) fn body_of(p: Pile) -> Packed
-    ensures { PackedAs (as_record p) result.answer result.body }
+// A lawful record's body, at the start of bytes that have room for any; refused with the record's own refusal.
+pub(crate) fn body_of(p: Pile) -> Result<[u8; LONGEST_BODY], Refusal>
+    ensures answer { answered result ≡ record_answer (as_record p) }
+    ensures body { IfOk result (PackedAs (as_record p)) }
 {
     let numbers = numbers_of(p);
-    let mut body = [0u8; LONGEST_BODY];
-    pack(&numbers, &mut body, 0);
-    Packed {
-        answer: check_record(&numbers),
-        body,
-    }
+    check_record(&numbers)?;
+    let mut body = [0; LONGEST_BODY];
+    pack(&numbers, &mut body, 0).unwrap();
+    Ok(body)
 }

@@ -6,19 +6,21 @@ mod check;
 mod lists;
 mod queries;
 
-ghost use Rattle.std.specs.Prelude.{◌≡◌};
+ghost use Rattle.std.specs.Prelude.{◌≡◌, IfOk};
 ghost use Rattle.rules.specs.Pile.{draw, tip};
 ghost use Rattle.rules.specs.Acts.{spend, give};
 ghost use Rattle.rules.specs.Record.{record_answer, body_record, fresh_answer, fresh_record, zero_record, record_tonnage_reply, record_rights_reply, record_act_answer, record_after_act};
 ghost use Rattle.padding.specs.Lists.{record_numbers};
 ghost use Rattle.pile.specs.View.{as_record};
 ghost use Rattle.pile.specs.Replies.{as_reply};
+ghost use Rattle.refusal.specs.Answers.{answered};
 
 use acts::{give_side, spend_side};
 use layout::limits;
 use lists::{numbers_of, record_of};
 use padding::{RECORD, check_record, pad};
 use queries::{rights_of, tonnage_of};
+use refusal::Refusal;
 
 // A record has places for 8 desks: 8 for each kind of shares and gives, so a row of tallies has 18.
 pub const PLACES: usize = limits::DESKS;
@@ -30,7 +32,7 @@ pub const ROW: usize = padding::ROW;
 pub const TALLIES: usize = PLACES * ROW;
 
 // n desks; shares of draw and then of tip, 8 each; 8 rows of tallies, each tipped, drawn, 8 draw gives and 8 tip gives. All past n is 0.
-#[derive(Clone, Copy)]
+#[derive(Clone, Copy, Debug, PartialEq, Eq)]
 pub struct Pile {
     pub n: u8,
     pub floor: u32,
@@ -39,18 +41,11 @@ pub struct Pile {
     pub tallies: [u32; TALLIES],
 }
 
-// What an act, the constructor and a fetch hand back: a refusal's number or 0, and the record.
-#[derive(Clone, Copy)]
+// What an act hands back: its answer, and the record after it, which is the one before where the act is refused.
+#[derive(Clone, Copy, Debug, PartialEq, Eq)]
 pub struct Outcome {
-    pub answer: u8,
+    pub answer: Result<(), Refusal>,
     pub pile: Pile,
-}
-
-// What a query hands back: tonnes, or the refusal's number alone.
-#[derive(Clone, Copy)]
-pub enum Amount {
-    Tonnes(u32),
-    Refused(u8),
 }
 
 impl Pile {
@@ -62,10 +57,11 @@ impl Pile {
 
     pub const AMOUNT_LIMIT: u32 = limits::AMOUNT_LIMIT;
 
-    // A fresh record, with all tallies 0; refused with 2 or 5, and then all zeros.
-    pub fn fresh(n: u8, floor: u32, top: u32, shares: [u32; SHARES]) -> Outcome
-        ensures answer { result.answer ≡ fresh_answer n floor top shares }
-        ensures pile { as_record result.pile ≡ fresh_record n floor top shares }
+    // A fresh record, with all tallies 0; refused with 2 or 5.
+    #[tactic(auto, unfolding(rules::specs::Record::fresh_answer, rules::specs::Record::fresh_record, rules::specs::Refusals::done))]
+    pub fn fresh(n: u8, floor: u32, top: u32, shares: [u32; SHARES]) -> Result<Pile, Refusal>
+        ensures answer { answered result ≡ fresh_answer n floor top shares }
+        ensures pile { IfOk result (λ pile. as_record pile ≡ fresh_record n floor top shares) }
     {
         let pile = Pile {
             n,
@@ -74,17 +70,11 @@ impl Pile {
             shares,
             tallies: [0; TALLIES],
         };
-        let answer = pile.check();
-        if answer != 0 {
-            return Outcome {
-                answer,
-                pile: Pile::zero(),
-            };
-        }
-        Outcome { answer: 0, pile }
+        pile.check()?;
+        Ok(pile)
     }
 
-    // The record of all zeros, which a refused constructor or fetch hands back.
+    // The record of all zeros, which stands for a body that is not there.
     pub fn zero() -> Pile
         ensures { as_record result ≡ zero_record }
     {
@@ -102,7 +92,8 @@ impl Pile {
         ensures { as_record result ≡ body_record n bytes.now at }
     {
         let mut numbers = [0u32; RECORD];
-        pad(bytes, at, n, &mut numbers);
+        // Where it refuses, the list keeps its zeros, which are the record that is wanted then.
+        pad(bytes, at, n, &mut numbers).ok();
         record_of(&numbers)
     }
 
@@ -113,29 +104,29 @@ impl Pile {
         numbers_of(self)
     }
 
-    // The record's own refusal: 2, 5, 6 or 7, or 0.
-    pub fn check(self) -> u8
-        ensures { result ≡ record_answer (as_record self) }
+    // The record's own refusal: 2, 5, 6 or 7.
+    pub fn check(self) -> Result<(), Refusal>
+        ensures { answered result ≡ record_answer (as_record self) }
     {
         check_record(&numbers_of(self))
     }
 
     // A desk's draw rights; refused with 2, 5, 6, 7 or 11.
-    pub fn draw_rights(self, desk: u8) -> Amount
+    pub fn draw_rights(self, desk: u8) -> Result<u32, Refusal>
         ensures { as_reply result ≡ record_rights_reply draw desk (as_record self) }
     {
         rights_of(self, 0, desk)
     }
 
     // A desk's tip rights; refused with 2, 5, 6, 7 or 11.
-    pub fn tip_rights(self, desk: u8) -> Amount
+    pub fn tip_rights(self, desk: u8) -> Result<u32, Refusal>
         ensures { as_reply result ≡ record_rights_reply tip desk (as_record self) }
     {
         rights_of(self, 1, desk)
     }
 
     // The tonnage by the acts that the record holds; refused with 2, 5, 6 or 7.
-    pub fn tonnage(self) -> Amount
+    pub fn tonnage(self) -> Result<u32, Refusal>
         ensures { as_reply result ≡ record_tonnage_reply (as_record self) }
     {
         tonnage_of(self)
@@ -143,7 +134,7 @@ impl Pile {
 
     // The record after a desk tips; refused with 2, 5, 6, 7, 11, 13, 14 or 15, and then unaltered.
     pub fn tip(self, desk: u8, amount: u32) -> Outcome
-        ensures answer { result.answer ≡ record_act_answer desk (spend tip) amount (as_record self) }
+        ensures answer { answered result.answer ≡ record_act_answer desk (spend tip) amount (as_record self) }
         ensures pile { as_record result.pile ≡ record_after_act desk (spend tip) amount (as_record self) }
     {
         spend_side(self, 1, desk, amount)
@@ -151,7 +142,7 @@ impl Pile {
 
     // The record after a desk draws; refused with 2, 5, 6, 7, 11, 13, 14 or 15, and then unaltered.
     pub fn draw(self, desk: u8, amount: u32) -> Outcome
-        ensures answer { result.answer ≡ record_act_answer desk (spend draw) amount (as_record self) }
+        ensures answer { answered result.answer ≡ record_act_answer desk (spend draw) amount (as_record self) }
         ensures pile { as_record result.pile ≡ record_after_act desk (spend draw) amount (as_record self) }
     {
         spend_side(self, 0, desk, amount)
@@ -159,7 +150,7 @@ impl Pile {
 
     // The record after a desk gives draw rights; refused with 2, 5, 6, 7 or 11 to 15, and then unaltered.
     pub fn give_draw(self, desk: u8, receiver: u8, amount: u32) -> Outcome
-        ensures answer { result.answer ≡ record_act_answer desk (give draw receiver) amount (as_record self) }
+        ensures answer { answered result.answer ≡ record_act_answer desk (give draw receiver) amount (as_record self) }
         ensures pile { as_record result.pile ≡ record_after_act desk (give draw receiver) amount (as_record self) }
     {
         give_side(self, 0, desk, receiver, amount)
@@ -167,7 +158,7 @@ impl Pile {
 
     // The record after a desk gives tip rights; refused with 2, 5, 6, 7 or 11 to 15, and then unaltered.
     pub fn give_tip(self, desk: u8, receiver: u8, amount: u32) -> Outcome
-        ensures answer { result.answer ≡ record_act_answer desk (give tip receiver) amount (as_record self) }
+        ensures answer { answered result.answer ≡ record_act_answer desk (give tip receiver) amount (as_record self) }
         ensures pile { as_record result.pile ≡ record_after_act desk (give tip receiver) amount (as_record self) }
     {
         give_side(self, 1, desk, receiver, amount)

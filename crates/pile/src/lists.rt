@@ -1,57 +1,46 @@
 // A record as a list of numbers, and a list of numbers as a record.
-ghost use Rattle.std.specs.Prelude.{◌≡◌, ◌≤◌, length, get_or};
+ghost use Rattle.std.specs.Prelude.{◌≡◌, ◌+◌, ◌≤◌, get_or};
+ghost use Rattle.rules.specs.Numbers.{part};
 ghost use Rattle.padding.specs.Lists.{record_length, record_numbers, numbers_record};
 ghost use Rattle.pile.specs.View.{as_record};
 
-use crate::{Pile, SHARES, TALLIES};
-use padding::runs::copy_run;
+use crate::Pile;
 use padding::{RECORD, SHARES_AT, TALLIES_AT};
 
 // The record's numbers.
 pub(crate) fn numbers_of(pile: Pile) -> [u32; RECORD]
     ensures { result ≡ record_numbers (as_record pile) }
 {
-    let mut numbers = [0u32; RECORD];
-    numbers[0] = pile.n as u32;
+    let mut numbers = [0; RECORD];
+    numbers[0] = u32::from(pile.n);
     numbers[1] = pile.floor;
     numbers[2] = pile.top;
-    let shares = pile.shares;
-    copy_run(&mut numbers, SHARES_AT, &shares, 0, SHARES);
-    let tallies = pile.tallies;
-    copy_run(&mut numbers, TALLIES_AT, &tallies, 0, TALLIES);
+    numbers[SHARES_AT..TALLIES_AT].copy_from_slice(&pile.shares);
+    numbers[TALLIES_AT..].copy_from_slice(&pile.tallies);
     numbers
 }
 
-fn shares_of(numbers: &[u32]) -> [u32; SHARES]
-    requires { length numbers.now ≡ record_length }
-    ensures { result ≡ (numbers_record numbers.now).shares }
+// N numbers of a list of a record's length, from a place on.
+fn run_of<const N: usize>(numbers: &[u32; RECORD], at: usize) -> [u32; N]
+    requires { at + N ≤ record_length }
+    ensures { result ≡ part at N numbers.now }
 {
-    let mut shares = [0u32; SHARES];
-    copy_run(&mut shares, 0, numbers, SHARES_AT, SHARES);
-    shares
-}
-
-fn tallies_of(numbers: &[u32]) -> [u32; TALLIES]
-    requires { length numbers.now ≡ record_length }
-    ensures { result ≡ (numbers_record numbers.now).tallies }
-{
-    let mut tallies = [0u32; TALLIES];
-    copy_run(&mut tallies, 0, numbers, TALLIES_AT, TALLIES);
-    tallies
+    let mut run = [0; N];
+    run.copy_from_slice(&numbers[at..at + N]);
+    run
 }
 
 // A list of a record's length as a record. The struct's n has one byte.
-pub(crate) fn record_of(numbers: &[u32]) -> Pile
-    requires { (length numbers.now ≡ record_length) × (get_or numbers.now 0 0 ≤ 8) }
+#[tactic(auto, unfolding(padding::specs::Lists::numbers_record))]
+pub(crate) fn record_of(numbers: &[u32; RECORD]) -> Pile
+    requires { get_or numbers.now 0 0 ≤ 8 }
     ensures { as_record result ≡ numbers_record numbers.now }
 {
-    let shares = shares_of(numbers);
-    let tallies = tallies_of(numbers);
     Pile {
         n: numbers[0] as u8,
         floor: numbers[1],
         top: numbers[2],
-        shares,
-        tallies,
+        shares: run_of(numbers, SHARES_AT),
+        tallies: run_of(numbers, TALLIES_AT),
     }
 }

@@ -1,3 +1,4 @@
 pub mod Filling
 pub mod ContentsLines
 pub mod BodyTold
+mod HandedOut

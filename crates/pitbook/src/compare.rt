@@ -11,23 +11,13 @@ pub fn pit_compare(mine: &[u8], copy: &[u8], order: &mut u32) -> u8
     ensures answer { result ≡ answer_of (order_reply (compared mine.now copy.now)) }
     ensures order { order.new ≡ value_of (order_reply (compared mine.now copy.now)) order.old }
 {
-    match compare(mine, copy) {
-        Comparison::Alike => {
-            *order = 1;
-            0
-        }
-        Comparison::MineLater => {
-            *order = 2;
-            0
-        }
-        Comparison::CopyLater => {
-            *order = 3;
-            0
-        }
-        Comparison::Split => {
-            *order = 4;
-            0
-        }
-        Comparison::Refused(number) => number,
-    }
+    let told = match compare(mine, copy) {
+        Ok(Comparison::Alike) => 1,
+        Ok(Comparison::MineLater) => 2,
+        Ok(Comparison::CopyLater) => 3,
+        Ok(Comparison::Split) => 4,
+        Err(refusal) => return refusal.into(),
+    };
+    *order = told;
+    0
 }

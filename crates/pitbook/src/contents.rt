@@ -14,12 +14,10 @@ fn put_entries(book: &[u8], p: u8, numbers: &mut [u32], positions: &mut [u32])
     ensures numbers { numbers.new ≡ filled p (pile_number book.now) numbers.old }
     ensures positions { positions.new ≡ filled p (position book.now) positions.old }
 {
-    let mut k: u8 = 0;
-    while k < p {
+    for k in 0..p {
         let place = k as usize;
         numbers[place] = pile_number(book, k) as u32;
         positions[place] = position(book, k);
-        k += 1;
     }
 }
 
@@ -29,9 +27,8 @@ pub fn pit_contents(book: &[u8], numbers: &mut [u32], positions: &mut [u32]) -> 
     ensures numbers { numbers.new ≡ after_numbers book.now numbers.old positions.old }
     ensures positions { positions.new ≡ after_positions book.now numbers.old positions.old }
 {
-    let own = check(book);
-    if own != 0 {
-        return own;
+    if let Err(refusal) = check(book) {
+        return refusal.into();
     }
     let p = head_of(book).piles;
     if numbers.len() < p as usize {

@@ -10,3 +10,4 @@ pub mod lists;
 pub mod queries;
 pub mod records;
 pub mod tickets;
+mod told;

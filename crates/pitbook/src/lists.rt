@@ -20,14 +20,14 @@ pub fn pit_reconcile(
     ensures only_bridge { only_bridge.new ≡ done (reconcile_answer bridge.now desk.now) (reconciliation bridge.now desk.now).only_bridge only_bridge.old }
     ensures only_desk { only_desk.new ≡ done (reconcile_answer bridge.now desk.now) (reconciliation bridge.now desk.now).only_desk only_desk.old }
 {
-    let counts = reconcile(bridge, desk);
-    let refusal = counts.answer;
-    if refusal != 0 {
-        return refusal;
+    match reconcile(bridge, desk) {
+        Ok(counts) => {
+            *alike = counts.alike;
+            *differing = counts.differing;
+            *only_bridge = counts.only_bridge;
+            *only_desk = counts.only_desk;
+            0
+        }
+        Err(refusal) => refusal.into(),
     }
-    *alike = counts.alike;
-    *differing = counts.differing;
-    *only_bridge = counts.only_bridge;
-    *only_desk = counts.only_desk;
-    0
 }

@@ -3,27 +3,12 @@ ghost use Rattle.std.specs.Prelude.{◌≡◌};
 ghost use Rattle.rules.specs.Pile.{draw, tip};
 ghost use Rattle.rules.specs.Book.{fetch_answer, tonnage_reply, rights_reply};
 ghost use Rattle.rules.specs.Bounds.{bound_reply};
-ghost use Rattle.pile.specs.Replies.{as_reply};
 ghost use Rattle.pitbook.specs.Queries.{answer_of, value_of, start_or, length_or};
 
+use crate::told::hand_out;
 use book::{draw_rights, seek, tip_rights, tonnage};
 use bounds::{least, most};
 use layout::lengths::body_length;
-use pile::Amount;
-
-// A query's reply, as a number and into a lent one.
-fn hand_out(reply: Amount, out: &mut u32) -> u8
-    ensures answer { result ≡ answer_of (as_reply reply) }
-    ensures out { out.new ≡ value_of (as_reply reply) out.old }
-{
-    match reply {
-        Amount::Tonnes(tonnes) => {
-            *out = tonnes;
-            0
-        }
-        Amount::Refused(answer) => answer,
-    }
-}
 
 // A desk's draw rights of a pile; refused with 1 to 7, 11 or 10.
 pub fn pit_draw_rights(book: &[u8], desk: u8, pile: u16, out: &mut u32) -> u8
@@ -71,14 +56,14 @@ pub fn pit_body(book: &[u8], pile: u16, start: &mut usize, length: &mut usize) -
     ensures start { start.new ≡ start_or book.now pile start.old }
     ensures length { length.new ≡ length_or book.now pile length.old }
 {
-    let found = seek(book, 0, pile);
-    let refusal = found.answer;
-    if refusal != 0 {
-        return refusal;
+    match seek(book, 0, pile) {
+        Ok(found) => {
+            let at = found.start as usize;
+            let size = body_length(found.desks);
+            *start = at;
+            *length = size;
+            0
+        }
+        Err(refusal) => refusal.into(),
     }
-    let at = found.start as usize;
-    let size = body_length(found.desks);
-    *start = at;
-    *length = size;
-    0
 }

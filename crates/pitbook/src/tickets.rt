@@ -3,6 +3,7 @@ ghost use Rattle.std.specs.Prelude.{◌≡◌};
 ghost use Rattle.rules.specs.Refusals.{done};
 ghost use Rattle.ticket.specs.Tickets.{as_ticket, ticket_of, read_answer, write_answer, after_write};
 
+use refusal::answer;
 use ticket::Ticket;
 
 // Reads a ticket of 11 bytes; refused with 3, 33, 34, 13 or 35. Kind is 1 for a tip and 2 for a draw.
@@ -21,17 +22,17 @@ pub fn pit_read_ticket(
     ensures kind { kind.new ≡ done (read_answer bytes.now) (ticket_of bytes.now).kind kind.old }
     ensures desk { desk.new ≡ done (read_answer bytes.now) (ticket_of bytes.now).desk desk.old }
 {
-    let read = Ticket::read(bytes);
-    let refusal = read.answer;
-    if refusal != 0 {
-        return refusal;
+    match Ticket::read(bytes) {
+        Ok(ticket) => {
+            *number = ticket.number;
+            *pile = ticket.pile;
+            *tonnes = ticket.tonnes;
+            *kind = ticket.kind;
+            *desk = ticket.desk;
+            0
+        }
+        Err(refusal) => refusal.into(),
     }
-    *number = read.ticket.number;
-    *pile = read.ticket.pile;
-    *tonnes = read.ticket.tonnes;
-    *kind = read.ticket.kind;
-    *desk = read.ticket.desk;
-    0
 }
 
 // Writes a ticket from a lent buffer's start on; refused with 33, 34, 13, 35 or, last, 8. Bytes past the ticket stay.
@@ -53,5 +54,5 @@ pub fn pit_write_ticket(
         kind,
         desk,
     };
-    ticket.write(out)
+    answer(ticket.write(out))
 }

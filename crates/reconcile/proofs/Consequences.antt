@@ -8,9 +8,8 @@ use mathlib.Core.List.{List}
 use lib.ListN.{length}
 use Rattle.rules.proofs.Loops.Refusals.{when_accepted}
 use Rattle.ticket.specs.declared.Ticket.{Ticket}
-use Rattle.reconcile.specs.declared.Reconciliation.{Reconciliation}
 use Rattle.reconcile.specs.Counts.{alike_in_both, differing_in_both, only_in_first}
-use Rattle.reconcile.specs.Lists.{tickets_in, tickets_of, reconcile_answer, reconciled, counted, reconciliation}
+use Rattle.reconcile.specs.Lists.{Reconciliation, tickets_in, tickets_of, reconcile_answer, reconciled, counted, reconciliation}
 use Rattle.reconcile.specs.Laws.{RisingList}
 use Rattle.reconcile.proofs.Laws.{first_adds_up, second_adds_up, against_itself, lists_exchanged}
 use Rattle.reconcile.proofs.Readings.{tickets_length, sound_listed}

@@ -14,9 +14,8 @@ use Rattle.rules.proofs.Loops.Every.{some_at, some_where}
 use Rattle.rules.proofs.Loops.Counts.{count_cong, count_all, count_none, count_apart, count_along}
 use Rattle.ticket.specs.declared.Ticket.{Ticket}
 use Rattle.ticket.specs.Tickets.{number_limit}
-use Rattle.reconcile.specs.declared.Reconciliation.{Reconciliation}
 use Rattle.reconcile.specs.Counts.{numbers_with, ticket_at, number_at, has, shares, alike_in_both, differing_in_both, only_in_first}
-use Rattle.reconcile.specs.Lists.{reconciled, counted}
+use Rattle.reconcile.specs.Lists.{Reconciliation, reconciled, counted}
 use Rattle.reconcile.specs.Laws.{RisingList, FirstAddsUp, SecondAddsUp, AgainstItself, ListsExchanged}
 use Rattle.reconcile.proofs.SameTicket.{same_number, equal_tickets, same_exchanged}
 use Rattle.reconcile.proofs.Rising.{present, above, shared}

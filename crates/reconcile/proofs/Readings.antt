@@ -18,8 +18,7 @@ use Rattle.rules.proofs.Loops.Every.{every_cong}
 use Rattle.rules.proofs.Loops.Refusals.{first_at, first_cong, or_else_none, when_accepted, when_refused}
 use Rattle.rules.proofs.Loops.Pieces.{length_list, getD_list}
 use Rattle.ticket.specs.declared.Ticket.{Ticket}
-use Rattle.ticket.specs.declared.Reading.{Reading}
-use Rattle.ticket.specs.Tickets.{number_limit, no_ticket, ticket_of, read_answer, handed_back, reading}
+use Rattle.ticket.specs.Tickets.{Reading, number_limit, no_ticket, ticket_of, read_answer, handed_back, reading}
 use Rattle.ticket.proofs.RoundTrip.{number_within}
 use Rattle.reconcile.specs.Counts.{ticket_at, number_at, numbers_rise}
 use Rattle.reconcile.specs.Lists.{tickets_in, ticket_part, tickets_of, tickets_answer}

@@ -6,7 +6,7 @@ use native.Mathlib.Decide.{ℕ_discrete}
 use native.Mathlib.Omega.{arith}
 use mathlib.Core.Path.{◌≡◌, refl, ap, ap₂, sym, ◌∙◌}
 use mathlib.Core.Bool.{Bool, true, false, not}
-use mathlib.Core.Logic.{◌≢◌, by_cases}
+use mathlib.Core.Logic.{by_cases}
 use mathlib.Core.List.{List}
 use lib.ListN.{length}
 use borrow.Author.Tests.{not-false, eqb-true, ltb-false}
@@ -14,14 +14,19 @@ use Rattle.rules.specs.Loops.{◌or◌, sum, count}
 use Rattle.rules.specs.Refusals.{◌when◌, ◌or_else◌}
 use Rattle.rules.proofs.Loops.Logic.{or_left, or_right, or_neither}
 use Rattle.rules.proofs.Loops.Refusals.{or_else_first, or_else_rest, or_else_passes, or_else_under, not_met, when_not_done, when_accepted, when_refused}
+use Rattle.std.specs.Prelude.{Result, Ok, Err}
+use Rattle.std.specs.Result.{IsErrAnd}
+use Rattle.refusal.specs.declared.Refusal.{Refusal}
+use Rattle.refusal.specs.Answers.{number_of, answered}
+use Rattle.refusal.proofs.Refused.{number_is_not_0}
+use Rattle.reconcile.specs.declared.Counts.{Counts}
 use Rattle.ticket.specs.Tickets.{ticket_length}
-use Rattle.reconcile.specs.declared.Reconciliation.{Reconciliation}
 use Rattle.reconcile.specs.declared.cursor.Cursor.{Cursor}
 use Rattle.reconcile.specs.declared.walk.Walk.{Walk}
 use Rattle.reconcile.specs.Counts.{numbers_rise}
-use Rattle.reconcile.specs.Lists.{list_limit, tickets_in, tickets_of, length_wrong, tickets_answer, reconcile_answer, reconciled, counted, reconciliation}
+use Rattle.reconcile.specs.Lists.{Reconciliation, as_reconciliation, list_limit, tickets_in, tickets_of, length_wrong, tickets_answer, reconcile_answer, reconciled, counted, reconciliation}
 use Rattle.reconcile.specs.Laws.{CountsAddUp}
-use Rattle.reconcile.specs.Inner.{cursor_at, Standing, Sound, ListWalked, Walked}
+use Rattle.reconcile.specs.Inner.{Place, as_place, place_at, Standing, Sound, ListWalked, Walked}
 use Rattle.reconcile.proofs.Laws.{alike_along, differing_along, only_along, first_adds_up, second_adds_up}
 use Rattle.reconcile.proofs.Readings.{tickets_length, all_asked, all_rise, sound_listed}
 use Rattle.reconcile.proofs.Steps.{as_walk}
@@ -31,20 +36,20 @@ unfolding length_wrong
 sized b e = (eqb-true _ _ (not-false _ (or_left _ _ e)), ltb-false _ _ (or_right _ _ e))
 
 -- at the start nothing is passed
-side_begun : {own other : List ℕ} {c d : Cursor} → length_wrong own ≡ false → c ≡ cursor_at own 0 → ListWalked own other c d 0 0 0
-unfolding cursor_at count sum
+side_begun : {own other : List ℕ} {c d : Cursor} → length_wrong own ≡ false → as_place c ≡ place_at own 0 → ListWalked own other c d 0 0 0
+unfolding place_at count sum
 side_begun {own} {c = c} e is-start =
-    let at_first : c.at ≡ 0 = ap (λ (c : Cursor). c.at) is-start in
+    let at_first : c.at ≡ 0 = ap (λ (p : Place). p.at) is-start in
     let place : c.at / ticket_length ≡ 0 = omega (arith, at_first) in
     record {
       standing =
-          record { whole = (sized own e).0; short = (sized own e).1; within = omega (arith, at_first); is_at = is-start ∙ ap (cursor_at own) (sym place) };
+          record { whole = (sized own e).0; short = (sized own e).1; within = omega (arith, at_first); is_at = is-start ∙ ap (place_at own) (sym place) };
       adds_up = sym place;
       passed = λ s s'. rw place (record { below = λ i l. absurd (not-suc-le-zero l); alike_is = refl; differing_is = refl; only_is = refl });
     }
 
 pub begun : {b d : List ℕ} {at_bridge at_desk : Cursor} → length_wrong b ≡ false → length_wrong d ≡ false
-    → at_bridge ≡ cursor_at b 0 → at_desk ≡ cursor_at d 0 → Walked b d (as_walk at_bridge at_desk 0 0 0 0)
+    → as_place at_bridge ≡ place_at b 0 → as_place at_desk ≡ place_at d 0 → Walked b d (as_walk at_bridge at_desk 0 0 0 0)
 begun e e' is-start is-start' = record { of_bridge = side_begun e is-start; of_desk = side_begun e' is-start' }
 
 -- at the end a cursor has the whole list's refusal, and whether it rises
@@ -55,13 +60,13 @@ module _ {b : List ℕ} {c : Cursor} (s : Standing b c) (end : length b ≤ c.at
   whole_list : c.at / ticket_length ≡ length (tickets_of b)
   whole_list = last_place ∙ sym (tickets_length b)
 
-  end_answer : c.answer ≡ tickets_answer b
-  unfolding cursor_at
-  end_answer = ap (λ (c : Cursor). c.answer) s.is_at ∙ ap (λ (k : ℕ). (cursor_at b k).answer) last_place ∙ all_asked b
+  end_answer : answered c.answer ≡ tickets_answer b
+  unfolding place_at
+  end_answer = ap (λ (p : Place). p.answer) s.is_at ∙ ap (λ (k : ℕ). (place_at b k).answer) last_place ∙ all_asked b
 
   end_rises : tickets_answer b ≡ 0 → c.rises ≡ numbers_rise (tickets_of b)
-  unfolding cursor_at
-  end_rises right = ap (λ (c : Cursor). c.rises) s.is_at ∙ ap (λ (k : ℕ). (cursor_at b k).rises) last_place ∙ all_rise b right
+  unfolding place_at
+  end_rises right = ap (λ (p : Place). p.rises) s.is_at ∙ ap (λ (k : ℕ). (place_at b k).rises) last_place ∙ all_rise b right
 
 -- an accepted pair of lists has nothing wrong in it
 pub sound_both : (b d : List ℕ) → reconcile_answer b d ≡ 0 → Sound b × Sound d
@@ -76,7 +81,7 @@ sound_both b d e =
 
 module _ {b d : List ℕ} {w : Walk} (p : Walked b d w) (end-bridge : length b ≤ w.bridge.at) (end-desk : length d ≤ w.desk.at) where
   pub judged : length_wrong b ≡ false → length_wrong d ≡ false
-      → w.bridge.answer or_else w.desk.answer or_else 36 when not w.bridge.rises or_else 37 when not w.desk.rises ≡ reconcile_answer b d
+      → answered w.bridge.answer or_else answered w.desk.answer or_else 36 when not w.bridge.rises or_else 37 when not w.desk.rises ≡ reconcile_answer b d
   unfolding reconcile_answer
   judged e e' =
       let mine = p.of_bridge.standing in
@@ -86,7 +91,7 @@ module _ {b d : List ℕ} {w : Walk} (p : Walked b d w) (end-bridge : length b �
       ap₂ (λ (x y : Bool). 36 when not x or_else 37 when not y) (end_rises mine end-bridge right) (end_rises theirs end-desk right')))
       ∙ sym (or_else_passes (not_met 3 (or_neither e e')) _)
 
-  pub counts_right : reconcile_answer b d ≡ 0 → reconciled 0 w.alike w.differing w.only_bridge w.only_desk ≡ counted (tickets_of b) (tickets_of d)
+  pub counts_right : reconcile_answer b d ≡ 0 → reconciled 0 w.counts.alike w.counts.differing w.counts.only_bridge w.counts.only_desk ≡ counted (tickets_of b) (tickets_of d)
   unfolding counted
   counts_right e =
       let (sound, sound') = sound_both b d e in
@@ -97,14 +102,19 @@ module _ {b d : List ℕ} {w : Walk} (p : Walked b d w) (end-bridge : length b �
       ((mine.only_is ∙ sym (only_along (sound_listed b sound) _)) i) ((theirs.only_is ∙ sym (only_along (sound_listed d sound') _)) i)
 
 -- what is handed back
-module _ (b d : List ℕ) {answer : ℕ} (e : answer ≡ reconcile_answer b d) where
-  pub handed_refused : answer ≢ 0 → reconciled answer 0 0 0 0 ≡ reconciliation b d
+module _ (b d : List ℕ) where
+  pub handed_refused : (refusal : Refusal) → number_of refusal ≡ reconcile_answer b d → reconciled (number_of refusal) 0 0 0 0 ≡ reconciliation b d
   unfolding reconciliation
-  handed_refused refused = ap (λ (a : ℕ). reconciled a 0 0 0 0) e ∙ sym (when_refused _ _ _ (λ z. refused (e ∙ z)))
+  handed_refused refusal e = ap (λ (a : ℕ). reconciled a 0 0 0 0) e ∙ sym (when_refused _ _ _ (λ z. number_is_not_0 refusal (e ∙ z)))
 
-  pub handed_done : answer ≡ 0 → counted (tickets_of b) (tickets_of d) ≡ reconciliation b d
+  pub refusal_handed_on : (r : Result Counts Refusal) (refusal : Refusal) → IsErrAnd r (λ e. e ≡ refusal) → number_of refusal ≡ reconcile_answer b d
+      → as_reconciliation r ≡ reconciliation b d
+  refusal_handed_on (Ok counts) refusal h e = absurd h
+  refusal_handed_on (Err other) refusal h e = handed_refused other (ap number_of h ∙ e)
+
+  pub handed_done : 0 ≡ reconcile_answer b d → counted (tickets_of b) (tickets_of d) ≡ reconciliation b d
   unfolding reconciliation
-  handed_done accepted = sym (when_accepted _ _ _ (sym e ∙ accepted))
+  handed_done accepted = sym (when_accepted _ _ _ (sym accepted))
 
 pub answer_told : (b d : List ℕ) → (reconciliation b d).answer ≡ reconcile_answer b d
 unfolding reconciliation counted

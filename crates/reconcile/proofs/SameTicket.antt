@@ -2,13 +2,24 @@
 -- Assumes nothing.
 use Prim.Native.Nat.{ℕ}
 use mathlib.Core.Path.{◌≡◌, refl, ap, sym, subst}
-use mathlib.Core.Bool.{true}
+use mathlib.Core.Bool.{Bool, true, false, ◌&&◌}
 use lib.Dec.{eqb}
 use borrow.Author.Tests.{eqb-true, eq-eqb}
+use Rattle.rules.specs.Loops.{◌and◌}
 use Rattle.rules.proofs.Loops.Logic.{same, and_left, and_right, and_both}
 use Rattle.ticket.specs.declared.Ticket.{Ticket}
 use Rattle.ticket.specs.Tickets.{as_ticket}
 use Rattle.reconcile.specs.Counts.{same_ticket}
+
+-- the derived test is that test
+and_is : (a b : Bool) → a && b ≡ a and b
+unfolding ◌and◌
+and_is true b = refl
+and_is false b = refl
+
+pub derived_same : (t u : Ticket) → eqb t.number u.number && (eqb t.pile u.pile && (eqb t.tonnes u.tonnes && (eqb t.kind u.kind && eqb t.desk u.desk))) ≡ same_ticket t u
+unfolding same_ticket
+derived_same t u = simp and_is
 
 same_tickets : (t u : Ticket) → same_ticket t u ≡ true → t ≡ u
 unfolding same_ticket

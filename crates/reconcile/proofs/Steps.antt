@@ -14,7 +14,7 @@ use Rattle.reconcile.specs.declared.cursor.Cursor.{Cursor}
 use Rattle.reconcile.specs.declared.walk.Walk.{Walk}
 use Rattle.reconcile.specs.Counts.{ticket_at, same_ticket}
 use Rattle.reconcile.specs.Lists.{tickets_of}
-use Rattle.reconcile.specs.Inner.{cursor_at, next_number, Standing, Sound, ListWalked, Walked}
+use Rattle.reconcile.specs.Inner.{as_place, place_at, next_number, Standing, Sound, ListWalked, Walked}
 use Rattle.reconcile.proofs.SameTicket.{same_exchanged}
 use Rattle.reconcile.proofs.Passing.{pass_own, pass_other, pass_both}
 use Rattle.reconcile.proofs.Readings.{tickets_length, ticket_read, number_read, sound_listed}
@@ -22,7 +22,7 @@ use Rattle.reconcile.proofs.Cursors.{head_is, inside, head_most, head_below, hea
 
 abbrev pub as_walk : Cursor → Cursor → ℕ → ℕ → ℕ → ℕ → Walk
 as_walk bridge desk alike differing onlyBridge onlyDesk =
-    record { bridge = bridge; desk = desk; alike = alike; differing = differing; only_bridge = onlyBridge; only_desk = onlyDesk }
+    record { bridge = bridge; desk = desk; counts = record { alike = alike; differing = differing; only_bridge = onlyBridge; only_desk = onlyDesk } }
 
 -- of a list with nothing wrong in it the head is the next ticket
 module _ {b : List ℕ} {c : Cursor} (s : Standing b c) (sound : Sound b) where
@@ -47,7 +47,7 @@ module _ {own other : List ℕ} {c d : Cursor} {alike differing only only' : ℕ
     pub own_inside : c.at < length own
     own_inside = at_a_ticket mine.standing less (head_most theirs.standing)
 
-    pub own_passed : {c' : Cursor} → c' ≡ cursor_at own (c.at / ticket_length + 1) → ListWalked own other c' d alike differing (only + 1)
+    pub own_passed : {c' : Cursor} → as_place c' ≡ place_at own (c.at / ticket_length + 1) → ListWalked own other c' d alike differing (only + 1)
     own_passed e =
         let (place, _, standing') = moved mine.standing own_inside e in
         record {
@@ -57,7 +57,7 @@ module _ {own other : List ℕ} {c d : Cursor} {alike differing only only' : ℕ
         }
 
     -- and so the other list has it
-    pub seen_passed : {c' : Cursor} → c' ≡ cursor_at own (c.at / ticket_length + 1) → ListWalked other own d c' alike differing only'
+    pub seen_passed : {c' : Cursor} → as_place c' ≡ place_at own (c.at / ticket_length + 1) → ListWalked other own d c' alike differing only'
     seen_passed e =
         let (place, _, _) = moved mine.standing own_inside e in
         record {
@@ -75,7 +75,7 @@ module _ {own other : List ℕ} {c d : Cursor} {alike differing only only' : ℕ
 
   both_passed : c.at < length own → d.at < length other → c.head.number ≡ d.head.number
       → (same : Bool) → same_ticket c.head d.head ≡ same
-      → {c' d' : Cursor} → c' ≡ cursor_at own (c.at / ticket_length + 1) → d' ≡ cursor_at other (d.at / ticket_length + 1)
+      → {c' d' : Cursor} → as_place c' ≡ place_at own (c.at / ticket_length + 1) → as_place d' ≡ place_at other (d.at / ticket_length + 1)
       → ListWalked own other c' d' (cond same (alike + 1) alike) (cond (not same) (differing + 1) differing) only
   both_passed inside-own inside-other e same told e₁ e₂ =
       let (place, _, standing') = moved mine.standing inside-own e₁ in
@@ -96,8 +96,8 @@ module _ {own other : List ℕ} {c d : Cursor} {alike differing only only' : ℕ
 -- and as both have it
 pub past_both : {b d : List ℕ} {w : Walk} → Walked b d w → w.bridge.at < length b → w.desk.at < length d → w.bridge.head.number ≡ w.desk.head.number
     → (same : Bool) → same_ticket w.bridge.head w.desk.head ≡ same
-    → {c' d' : Cursor} → c' ≡ cursor_at b (w.bridge.at / ticket_length + 1) → d' ≡ cursor_at d (w.desk.at / ticket_length + 1)
-    → Walked b d (as_walk c' d' (cond same (w.alike + 1) w.alike) (cond (not same) (w.differing + 1) w.differing) w.only_bridge w.only_desk)
+    → {c' d' : Cursor} → as_place c' ≡ place_at b (w.bridge.at / ticket_length + 1) → as_place d' ≡ place_at d (w.desk.at / ticket_length + 1)
+    → Walked b d (as_walk c' d' (cond same (w.counts.alike + 1) w.counts.alike) (cond (not same) (w.counts.differing + 1) w.counts.differing) w.counts.only_bridge w.counts.only_desk)
     × (w.bridge.at + w.desk.at < c'.at + d'.at)
 past_both p inside-bridge inside-desk e same told e₁ e₂ =
     let mine = p.of_bridge in

@@ -1,12 +1,12 @@
 -- What the functions inside the crate promise each other of the walk over two lists of tickets: at each list it has a cursor. No promise of the crate's own
 -- cites these.
 -- Assumes nothing.
-use Rattle.std.specs.Prelude.{ℕ, suc, ◌+◌, ◌*◌, ◌/◌, ◌%◌, ◌≤◌, ◌<◌, ◌≡◌, true, cond, not, List, length, ltb}
+use Rattle.std.specs.Prelude.{ℕ, suc, ◌+◌, ◌*◌, ◌/◌, ◌%◌, ◌≤◌, ◌<◌, ◌≡◌, Bool, true, cond, not, List, length, ltb}
 use Rattle.rules.specs.Loops.{◌and◌, every, count}
 use Rattle.rules.specs.Refusals.{first}
+use Rattle.refusal.specs.Answers.{answered}
 use Rattle.ticket.specs.declared.Ticket.{Ticket}
-use Rattle.ticket.specs.declared.Reading.{Reading}
-use Rattle.ticket.specs.Tickets.{ticket_length, number_limit, as_ticket, handed_back, reading}
+use Rattle.ticket.specs.Tickets.{Reading, ticket_length, number_limit, as_ticket, handed_back, reading}
 use Rattle.reconcile.specs.declared.cursor.Cursor.{Cursor}
 use Rattle.reconcile.specs.declared.walk.Walk.{Walk}
 use Rattle.reconcile.specs.Counts.{number_at, has, shares, numbers_rise}
@@ -20,9 +20,19 @@ end_ticket = as_ticket (suc number_limit) 0 0 0 0
 unfoldable pub read_at : List ℕ → ℕ → Reading
 read_at b k = cond (ltb k (tickets_in b)) (reading (ticket_part b k)) (handed_back 0 end_ticket)
 
--- The cursor at place k: the first refusal among the tickets up to it, whether their numbers rise, and the ticket there.
-unfoldable pub cursor_at : List ℕ → ℕ → Cursor
-cursor_at b k =
+-- What a cursor says: where it is, the number of the first refusal among the tickets up to it, whether their numbers rise, and the ticket there.
+pub record Place : Type 0 where
+  pub at : ℕ
+  pub answer : ℕ
+  pub rises : Bool
+  pub head : Ticket
+
+abbrev pub as_place : Cursor → Place
+as_place c = record { at = c.at; answer = answered c.answer; rises = c.rises; head = c.head }
+
+-- place k of a list
+unfoldable pub place_at : List ℕ → ℕ → Place
+place_at b k =
     record {
       at = k * ticket_length;
       answer = first (suc k) (λ j. (read_at b j).answer);
@@ -35,7 +45,7 @@ pub record Standing (b : List ℕ) (c : Cursor) : Type 0 where
   pub whole : length b % ticket_length ≡ 0
   pub short : length b ≤ list_limit * ticket_length
   pub within : c.at ≤ length b
-  pub is_at : c ≡ cursor_at b (c.at / ticket_length)
+  pub is_at : as_place c ≡ place_at b (c.at / ticket_length)
 
 -- the number at place k of a list, or behind the last ticket that of the end
 abbrev pub next_number : List Ticket → ℕ → ℕ
@@ -62,5 +72,5 @@ pub record ListWalked (own other : List ℕ) (c d : Cursor) (alike differing onl
 
 -- and as both have it
 pub record Walked (bridge desk : List ℕ) (w : Walk) : Type 0 where
-  pub of_bridge : ListWalked bridge desk w.bridge w.desk w.alike w.differing w.only_bridge
-  pub of_desk : ListWalked desk bridge w.desk w.bridge w.alike w.differing w.only_desk
+  pub of_bridge : ListWalked bridge desk w.bridge w.desk w.counts.alike w.counts.differing w.counts.only_bridge
+  pub of_desk : ListWalked desk bridge w.desk w.bridge w.counts.alike w.counts.differing w.counts.only_desk

@@ -3,9 +3,8 @@
 use Rattle.std.specs.Prelude.{ℕ, ◌+◌, ◌≤◌, ◌<◌, ◌≡◌, true, List, length}
 use Rattle.ticket.specs.declared.Ticket.{Ticket}
 use Rattle.ticket.specs.Tickets.{number_limit}
-use Rattle.reconcile.specs.declared.Reconciliation.{Reconciliation}
 use Rattle.reconcile.specs.Counts.{number_at, alike_in_both, differing_in_both, only_in_first, numbers_rise}
-use Rattle.reconcile.specs.Lists.{tickets_in, reconcile_answer, reconciled, counted, reconciliation}
+use Rattle.reconcile.specs.Lists.{Reconciliation, tickets_in, reconcile_answer, reconciled, counted, reconciliation}
 
 -- "each rising strictly by ticket number": the numbers rise, and each is one that a ticket can have
 pub record RisingList (l : List Ticket) : Type 0 where

@@ -1,12 +1,14 @@
 -- Lists of tickets in bytes, one ticket behind the other: what is wrong with the bridge's and the desk's, and what comparing them hands back.
 -- Assumes nothing.
-use Rattle.std.specs.Prelude.{ℕ, ◌*◌, ◌/◌, ◌%◌, Bool, not, List, length, eqb, ltb}
+use Rattle.std.specs.Prelude.{ℕ, Result, Ok, Err, ◌*◌, ◌/◌, ◌%◌, Bool, not, List, length, eqb, ltb}
 use Rattle.rules.specs.Loops.{◌or◌, list}
 use Rattle.rules.specs.Refusals.{◌when◌, ◌or_else◌, first, done}
 use Rattle.rules.specs.Numbers.{part}
 use Rattle.ticket.specs.declared.Ticket.{Ticket}
 use Rattle.ticket.specs.Tickets.{ticket_length, ticket_of, read_answer}
-use Rattle.reconcile.specs.declared.Reconciliation.{Reconciliation}
+use Rattle.refusal.specs.declared.Refusal.{Refusal}
+use Rattle.refusal.specs.Answers.{number_of}
+use Rattle.reconcile.specs.declared.Counts.{Counts}
 use Rattle.reconcile.specs.Counts.{numbers_rise, alike_in_both, differing_in_both, only_in_first}
 
 abbrev pub list_limit : ℕ
@@ -39,6 +41,13 @@ reconcile_answer bridge desk =
     or_else 37 when not (numbers_rise (tickets_of desk))
 
 -- what comparing hands back: 0 and the four counts, or a refusal's number beside zeros
+pub record Reconciliation : Type 0 where
+  pub answer : ℕ
+  pub alike : ℕ
+  pub differing : ℕ
+  pub only_bridge : ℕ
+  pub only_desk : ℕ
+
 abbrev pub reconciled : (answer alike differing onlyBridge onlyDesk : ℕ) → Reconciliation
 reconciled answer alike differing onlyBridge onlyDesk =
     record { answer = answer; alike = alike; differing = differing; only_bridge = onlyBridge; only_desk = onlyDesk }
@@ -49,3 +58,8 @@ counted bridge desk = reconciled 0 (alike_in_both bridge desk) (differing_in_bot
 unfoldable pub reconciliation : (bridge desk : List ℕ) → Reconciliation
 reconciliation bridge desk =
     done (reconcile_answer bridge desk) (counted (tickets_of bridge) (tickets_of desk)) (reconciled (reconcile_answer bridge desk) 0 0 0 0)
+
+-- what the code hands back, as a reconciliation: a refusal has no counts beside it
+abbrev pub as_reconciliation : Result Counts Refusal → Reconciliation
+as_reconciliation (Ok c) = reconciled 0 c.alike c.differing c.only_bridge c.only_desk
+as_reconciliation (Err refusal) = reconciled (number_of refusal) 0 0 0 0

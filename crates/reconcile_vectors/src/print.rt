@@ -1,31 +1,23 @@
 // A line for two lists, and the tickets that lists are made of.
 use reconcile::reconcile;
-use samples::{decimal, text};
 use std::io;
 use ticket::Ticket;
 
-fn number(rt: &impl Print, x: u32) -> io::Result<()> {
-    text(rt, b" ")?;
-    decimal(rt, x as u64)
-}
-
-// What comparing two lists hands back.
-pub(crate) fn line(rt: &impl Print, label: &[u8], bridge: &[u8], desk: &[u8]) -> io::Result<()> {
-    let counts = reconcile(bridge, desk);
-    text(rt, label)?;
-    text(rt, b":")?;
-    number(rt, counts.answer as u32)?;
-    number(rt, counts.alike)?;
-    number(rt, counts.differing)?;
-    number(rt, counts.only_bridge)?;
-    number(rt, counts.only_desk)?;
-    text(rt, b"\n")
+// What comparing two lists hands back; beside a refusal all counts are 0.
+pub(crate) fn line(rt: &impl Print, label: &str, bridge: &[u8], desk: &[u8]) -> io::Result<()> {
+    match reconcile(bridge, desk) {
+        Ok(counts) => println!(rt;
+            "{label}: 0 {} {} {} {}",
+            counts.alike, counts.differing, counts.only_bridge, counts.only_desk
+        ),
+        Err(refusal) => println!(rt; "{label}: {} 0 0 0 0", u8::from(refusal)),
+    }
 }
 
 // Two lists of three tickets.
 pub(crate) fn pair(
     rt: &impl Print,
-    label: &[u8],
+    label: &str,
     bridge: [u8; 33],
     desk: [u8; 33],
 ) -> io::Result<()> {
@@ -35,15 +27,13 @@ pub(crate) fn pair(
 // The first so many bytes of one list, against the first so many of the same.
 pub(crate) fn parts(
     rt: &impl Print,
-    label: &[u8],
+    label: &str,
     list: &[u8],
     bridge: usize,
     desk: usize,
 ) -> io::Result<()> {
-    if bridge <= list.len() {
-        if desk <= list.len() {
-            line(rt, label, &list[0..bridge], &list[0..desk])?;
-        }
+    if let (Some(a), Some(b)) = (list.get(..bridge), list.get(..desk)) {
+        line(rt, label, a, b)?;
     }
     Ok(())
 }
@@ -59,12 +49,12 @@ pub(crate) fn load(number: u32, tonnes: u32) -> Ticket {
     }
 }
 
-// Writes ticket k of a list, where it has room for it.
+// Writes ticket k of a list, where it has room for it; a ticket with a wrong field leaves the bytes as they are.
 pub(crate) fn put(list: &mut [u8], k: usize, ticket: Ticket) {
     if k <= 4_096 {
         let at = Ticket::LENGTH * k;
         if at + Ticket::LENGTH <= list.len() {
-            ticket.write(&mut list[at..at + Ticket::LENGTH]);
+            ticket.write(&mut list[at..at + Ticket::LENGTH]).ok();
         }
     }
 }

@@ -7,35 +7,31 @@ ghost use Rattle.rows.specs.Comparisons.{as_comparison};
 
 use layout::lengths::{NUMBER, is_row_length};
 use number::get4;
+use refusal::Refusal;
 
 // What comparing two rows tells: they are alike, mine is later, the copy's is, or they are split. Slices that are no two rows of one length are refused.
-#[derive(Clone, Copy)]
+#[derive(Clone, Copy, Debug, PartialEq, Eq)]
 pub enum Comparison {
     Alike,
     MineLater,
     CopyLater,
     Split,
-    Refused(u8),
 }
 
 // Compares the numbers of my row with those at the same places of the copy's, in one pass: is each row at least the other at every place? A row that
 // is, where the other is not, is the later one: it dominates the other in the product order. Where neither is, the rows are split, a fork. Refused
 // with 3 where the rows differ in length or have a length other than 8(n + 1) bytes for an n from 1 to 8.
-pub fn compare(mine: &[u8], copy: &[u8]) -> Comparison
+pub fn compare(mine: &[u8], copy: &[u8]) -> Result<Comparison, Refusal>
     ensures { as_comparison result ≡ compared mine.now copy.now }
 {
-    if !is_row_length(mine.len()) {
-        return Comparison::Refused(3);
-    }
-    if mine.len() != copy.len() {
-        return Comparison::Refused(3);
+    if !is_row_length(mine.len()) || mine.len() != copy.len() {
+        return Err(Refusal::LengthWrong);
     }
     let places = mine.len() / NUMBER;
     // Each row has been at least the other at every place so far.
     let mut mine_above = true;
     let mut copy_above = true;
-    let mut c = 0;
-    while c < places {
+    for c in 0..places {
         // Of a part of 4 bytes a number is read without a test, and the compiler compares several at once.
         let at = c * NUMBER;
         let x = get4(&mine[at..at + NUMBER], 0);
@@ -46,18 +42,13 @@ pub fn compare(mine: &[u8], copy: &[u8]) -> Comparison
         if y < x {
             copy_above = false;
         }
-        c += 1;
     }
-    if mine_above {
-        if copy_above {
-            return Comparison::Alike;
-        }
-        return Comparison::MineLater;
-    }
-    if copy_above {
-        return Comparison::CopyLater;
-    }
-    Comparison::Split
+    Ok(match (mine_above, copy_above) {
+        (true, true) => Comparison::Alike,
+        (true, false) => Comparison::MineLater,
+        (false, true) => Comparison::CopyLater,
+        (false, false) => Comparison::Split,
+    })
 }
 
 // The later of two rows, handed on as that part of whichever book has it; of two alike rows the first. Empty, at the first row's start, where the
@@ -68,10 +59,8 @@ pub fn later_row<'a>(mine: &'a [u8], copy: &'a [u8]) -> &'a [u8]
 {
     match compare(mine, copy) {
         // Of two alike rows the first is handed on.
-        Comparison::Alike => mine,
-        Comparison::MineLater => mine,
-        Comparison::CopyLater => copy,
-        Comparison::Split => &mine[0..0],
-        Comparison::Refused(_) => &mine[0..0],
+        Ok(Comparison::Alike | Comparison::MineLater) => mine,
+        Ok(Comparison::CopyLater) => copy,
+        Ok(Comparison::Split) | Err(_) => &mine[..0],
     }
 }

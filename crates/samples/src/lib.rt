@@ -5,4 +5,4 @@ mod longest;
 mod print;
 
 pub use longest::longest_list;
-pub use print::{amount, decimal, line, text};
+pub use print::{amount, line};

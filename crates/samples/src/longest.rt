@@ -3,29 +3,25 @@ ghost use Rattle.std.specs.Prelude.{◌<◌};
 
 const NUMBERS: usize = 608;
 
-// The number at a place of the list, of which each pile has 19.
+// How many numbers the list has for a pile.
+const OF_PILE: usize = 19;
+
+// The number at a place of the list.
 fn given(at: usize) -> u32
-    requires { at < 608 }
+    requires { at < NUMBERS }
 {
-    let place = at % 19;
-    if place == 0 {
-        return (at / 19) as u32 + 1;
+    match at % OF_PILE {
+        0 => (at / OF_PILE) as u32 + 1,
+        1 => 0,
+        2 => 16,
+        _ => 1,
     }
-    if place == 1 {
-        return 0;
-    }
-    if place == 2 {
-        return 16;
-    }
-    1
 }
 
 pub fn longest_list() -> [u32; NUMBERS] {
     let mut numbers = [0u32; NUMBERS];
-    let mut at = 0;
-    while at < NUMBERS {
+    for at in 0..NUMBERS {
         numbers[at] = given(at);
-        at += 1;
     }
     numbers
 }

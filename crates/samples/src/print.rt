@@ -1,43 +1,34 @@
 // Lines of a test program, on standard output. What is written no promise can say.
 ghost use Rattle.std.specs.Prelude.{◌≡◌, IfOk};
 
-use pile::{Amount, Outcome, Pile};
+use pile::{Outcome, Pile};
+use refusal::{Refusal, answer};
 use std::io;
-use std::io::Write;
 
-pub fn text(rt: &impl Print, s: &[u8]) -> io::Result<()> {
-    io::writer(rt).write_all(s)
-}
-
-pub fn decimal(rt: &impl Print, x: u64) -> io::Result<()> {
-    print!(rt; "{x}")
-}
-
-pub fn amount(rt: &impl Print, a: Amount) -> io::Result<()> {
-    match a {
-        Amount::Tonnes(x) => print!(rt; " {x}"),
-        Amount::Refused(k) => print!(rt; " refused {k}"),
+// Tonnes, or the number of a refusal.
+pub fn amount(rt: &impl Print, told: Result<u32, Refusal>) -> io::Result<()> {
+    match told {
+        Ok(tonnes) => print!(rt; " {tonnes}"),
+        Err(refusal) => print!(rt; " refused {}", u8::from(refusal)),
     }
 }
 
 // A line with a label, an answer, and the tonnage and the draw and tip rights of desks 0, 1 and 2 of the record beside it, which is handed back for the
 // next act.
-pub fn line(rt: &impl Print, label: &[u8], e: Outcome) -> io::Result<Pile>
+pub fn line(rt: &impl Print, label: &str, e: Outcome) -> io::Result<Pile>
     ensures { IfOk result (λ p. p ≡ e.pile) }
 {
-    text(rt, label)?;
-    let answer = e.answer;
-    let p = e.pile;
-    print!(rt; ": {answer} known")?;
-    amount(rt, p.tonnage())?;
+    let pile = e.pile;
+    print!(rt; "{label}: {} known", answer(e.answer))?;
+    amount(rt, pile.tonnage())?;
     print!(rt; " draw")?;
-    amount(rt, p.draw_rights(0))?;
-    amount(rt, p.draw_rights(1))?;
-    amount(rt, p.draw_rights(2))?;
+    for desk in 0..3 {
+        amount(rt, pile.draw_rights(desk))?;
+    }
     print!(rt; " tip")?;
-    amount(rt, p.tip_rights(0))?;
-    amount(rt, p.tip_rights(1))?;
-    amount(rt, p.tip_rights(2))?;
+    for desk in 0..3 {
+        amount(rt, pile.tip_rights(desk))?;
+    }
     println!(rt;)?;
-    Ok(p)
+    Ok(pile)
 }

@@ -23,10 +23,6 @@ module _ (b : List ℕ) (number : ℕ) (r : Record) where
   unfolding after_store
   store_refused e d = (e, sym (when_refused _ _ _ (λ z. d (e ∙ z))))
 
-  pub store_own : (m : ℕ) → m ≡ fetch_answer b number → m ≢ 0 → m ≡ store_answer b number r
-  unfolding store_answer
-  store_own m e d = own_refusal e d _
-
   module _ (found : fetch_answer b number ≡ 0) where
     pub store_record : (m : ℕ) → m ≡ record_answer r → m ≢ 0 → m ≡ store_answer b number r
     unfolding store_answer

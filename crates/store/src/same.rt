@@ -19,13 +19,11 @@ fn same_run(book: &[u8], at: usize, numbers: &[u32], from: usize, count: usize) 
     ensures { result ≡ every count (λ k. eqb (get_or numbers.now (from + k) 0) (number 4 book.now (at + k * 4))) }
 {
     let mut same = true;
-    let mut k = 0;
-    while k < count {
+    for k in 0..count {
         let place = at + k * NUMBER;
         if numbers[from + k] != get4(&book[place..place + NUMBER], 0) {
             same = false;
         }
-        k += 1;
     }
     same
 }
@@ -37,14 +35,12 @@ pub(crate) fn same_opening(book: &[u8], at: usize, numbers: &[u32], n: u8) -> bo
 {
     // As many columns stand before those of tip.
     let front = side_column(n, 1, 0);
-    if !same_run(book, at, numbers, OPENING_AT, front as usize) {
-        return false;
-    }
-    same_run(
-        book,
-        at + cell_at(n, 0, front),
-        numbers,
-        OPENING_AT + TIPS,
-        n as usize,
-    )
+    same_run(book, at, numbers, OPENING_AT, usize::from(front))
+        && same_run(
+            book,
+            at + cell_at(n, 0, front),
+            numbers,
+            OPENING_AT + TIPS,
+            usize::from(n),
+        )
 }

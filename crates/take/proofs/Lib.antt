@@ -1,6 +1,7 @@
+pub mod BothRead
 pub mod ByMarks
-pub mod Held
 pub mod InOrder
 pub mod Marking
 pub mod Moved
+pub mod RowAnswers
 pub mod TakeLines

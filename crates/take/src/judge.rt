@@ -1,147 +1,85 @@
 // Whether a copy is taken: the lines of document 01's table for a take, in their order.
-ghost use Rattle.std.specs.Prelude.{◌≡◌, suc, ◌+◌, ◌*◌, eqb};
+ghost use Rattle.std.specs.Prelude.{◌≡◌, suc, ◌+◌, ◌*◌, ◌≤◌, eqb, Ok, IfOk, OnOk};
 ghost use Rattle.rules.specs.Loops.{◌and◌, every};
 ghost use Rattle.rules.specs.Refusals.{first};
 ghost use Rattle.rules.specs.Numbers.{part};
 ghost use Rattle.rules.specs.Layout.{head_of, row_length, front_length, pile_number};
 ghost use Rattle.rules.specs.Rows.{compared, is_alike, is_copy_later};
 ghost use Rattle.rules.specs.Take.{row_answer, take_answer};
+ghost use Rattle.refusal.specs.Answers.{number_of, answered};
 ghost use Rattle.rows.specs.Comparisons.{as_comparison};
 ghost use Rattle.layout.specs.Positions.{as_head};
-ghost use Rattle.take.specs.Inner.{InBoth, Alongside, opening_part, compared_at, Blank, Marked, AllMarked, DesksAhead, PilesAhead};
+ghost use Rattle.take.specs.Inner.{RowInBoth, Alongside, opening_part, compared_at, Marked, AllMarked, DesksAhead, PilesAhead};
 
 use book::check;
-use layout::contents::entry_number;
-use layout::head::{ENTRY, Head, entry_at, front_length, head_of};
-use layout::lengths::{body_length, row_length};
+use layout::contents::pile_number;
+use layout::head::{Head, body_at, front_length, head_of};
+use layout::lengths::{ROWS, row_length};
+use refusal::Refusal;
 use rows::{Comparison, compare};
 
-// The refusals of a copy are those of a book and so much more.
-const OF_COPY: u8 = 20;
-
 // Compares the rows at one position of both books.
-pub(crate) fn compare_at(own: &[u8], copy: &[u8], at: usize, row: usize) -> Comparison
-    requires { InBoth at row own.now copy.now }
-    ensures { as_comparison result ≡ compared (part at row own.now) (part at row copy.now) }
+fn compare_at(own: &[u8], copy: &[u8], at: usize, row: usize) -> Comparison
+    requires { RowInBoth at row own.now copy.now }
+    ensures { as_comparison (Ok result) ≡ compared (part at row own.now) (part at row copy.now) }
 {
-    compare(&own[at..at + row], &copy[at..at + row])
+    // Rows of readable books have a row's length.
+    compare(&own[at..at + row], &copy[at..at + row]).unwrap()
 }
 
-// Are the rows at one position alike?
-fn alike_at(own: &[u8], copy: &[u8], at: usize, row: usize) -> bool
-    requires { InBoth at row own.now copy.now }
-    ensures { result ≡ is_alike (compared (part at row own.now) (part at row copy.now)) }
+// Whether the copy's row at a position is later, or its refusal: 31 where the rows are split; 32 where they are those of the taker's own desk, as `takers`
+// says, and the copy's is later.
+#[tactic(auto, using(crate::proofs::RowAnswers::row_told))]
+fn judge_row(own: &[u8], copy: &[u8], at: usize, row: usize, takers: bool) -> Result<bool, Refusal>
+    requires { RowInBoth at row own.now copy.now }
+    ensures answer { answered result ≡ row_answer takers (compared (part at row own.now) (part at row copy.now)) }
+    ensures later { IfOk result (λ later. later ≡ is_copy_later (compared (part at row own.now) (part at row copy.now))) }
 {
     match compare_at(own, copy, at, row) {
-        Comparison::Alike => true,
-        Comparison::MineLater => false,
-        Comparison::CopyLater => false,
-        Comparison::Split => false,
-        Comparison::Refused(_) => false,
+        Comparison::Alike | Comparison::MineLater => Ok(false),
+        Comparison::CopyLater if takers => Err(Refusal::OwnRowBehind),
+        Comparison::CopyLater => Ok(true),
+        Comparison::Split => Err(Refusal::RowsSplit),
     }
 }
 
-// What is said of a row: 31, 32 or 0, and whether the copy's is later.
-#[derive(Clone, Copy)]
-struct Judged {
-    pub answer: u8,
-    pub later: bool,
-}
-
-// 31 where the rows at one position are split; 32 where they are those of the taker's own desk, as `takers` says, and the copy's is later.
-fn judge_row(own: &[u8], copy: &[u8], at: usize, row: usize, takers: bool) -> Judged
-    requires { InBoth at row own.now copy.now }
-    ensures answer { result.answer ≡ row_answer takers (compared (part at row own.now) (part at row copy.now)) }
-    ensures later { result.later ≡ is_copy_later (compared (part at row own.now) (part at row copy.now)) }
-{
-    match compare_at(own, copy, at, row) {
-        Comparison::Alike => Judged {
-            answer: 0,
-            later: false,
-        },
-        Comparison::MineLater => Judged {
-            answer: 0,
-            later: false,
-        },
-        Comparison::CopyLater => {
-            if takers {
-                return Judged {
-                    answer: 32,
-                    later: true,
-                };
-            }
-            Judged {
-                answer: 0,
-                later: true,
-            }
-        }
-        Comparison::Split => Judged {
-            answer: 31,
-            later: false,
-        },
-        // Rows of readable books have a row's length.
-        Comparison::Refused(_) => Judged {
-            answer: 0,
-            later: false,
-        },
-    }
-}
-
-// The first refusal of the rows of one pile, desk by desk, which are the n rows from number `from` on, counted from the first body's opening; where there is
-// none, each has its mark.
+// The first refusal of the rows of one pile, desk by desk, which are those of n desks behind the opening of pile k; where there is none, each has its mark.
 fn desks_answer(
     own: &[u8],
     copy: &[u8],
-    front: usize,
-    n: u8,
-    from: usize,
+    head: Head,
+    k: u8,
     desk: u8,
-    marks: &mut [bool],
-) -> u8
-    requires { DesksAhead front n from own.now copy.now marks.old }
-    ensures answer { result ≡ first n (λ i. row_answer (eqb i desk) (compared_at front (row_length n) own.now copy.now (from + i))) }
-    ensures marks { result ≡ 0 → Marked front (row_length n) (from + n) own.now copy.now marks.new }
-{
-    let row = row_length(n);
-    let mut i: u8 = 0;
-    while i < n {
-        let place = from + i as usize;
-        let judged = judge_row(own, copy, front + place * row, row, i == desk);
-        let answer = judged.answer;
-        if answer != 0 {
-            return answer;
-        }
-        let later = judged.later;
-        if later {
-            marks[place] = true;
-        }
-        i += 1;
-    }
-    0
-}
-
-// The first refusal of all rows, by pile and then by desk; where there is none, the marks say which rows are later in the copy. Openings are alike, and not
-// looked at again.
-fn piles_answer(own: &[u8], copy: &[u8], head: Head, desk: u8, marks: &mut [bool]) -> u8
-    requires { PilesAhead (as_head head) own.now copy.now marks.old }
-    ensures answer { result ≡ first head.piles (λ k. first head.desks (λ i. row_answer (eqb i desk)
-        (compared_at (front_length (as_head head)) (row_length head.desks) own.now copy.now (k * suc head.desks + suc i)))) }
-    ensures marks { result ≡ 0 → AllMarked (as_head head) own.now copy.now marks.new }
+    marks: &mut [bool; ROWS],
+) -> Result<(), Refusal>
+    requires { DesksAhead (as_head head) k own.now copy.now marks.old }
+    ensures answer { answered result ≡ first head.desks (λ i. row_answer (eqb i desk)
+        (compared_at (front_length (as_head head)) (row_length head.desks) own.now copy.now (k * suc head.desks + suc i))) }
+    ensures marks { OnOk result (Marked (front_length (as_head head)) (row_length head.desks) ((k + 1) * suc head.desks) own.now copy.now marks.new) }
 {
     let front = front_length(head);
-    let n = head.desks;
-    let p = head.piles;
-    let mut opening = 0;
-    let mut k: u8 = 0;
-    while k < p {
-        let answer = desks_answer(own, copy, front, n, opening + 1, desk, marks);
-        if answer != 0 {
-            return answer;
-        }
-        opening += n as usize + 1;
-        k += 1;
+    let row = row_length(head.desks);
+    let first = usize::from(k) * (usize::from(head.desks) + 1) + 1;
+    for i in 0..head.desks {
+        let place = first + usize::from(i);
+        marks[place] = judge_row(own, copy, front + place * row, row, i == desk)?;
     }
-    0
+    Ok(())
+}
+
+// The first refusal of all rows, by pile and then by desk; where there is none, the marks that say which rows are later in the copy. Rows go by their number
+// in file order, openings among them: those are alike, and not looked at again.
+fn piles_answer(own: &[u8], copy: &[u8], head: Head, desk: u8) -> Result<[bool; ROWS], Refusal>
+    requires { PilesAhead (as_head head) own.now copy.now }
+    ensures answer { answered result ≡ first head.piles (λ k. first head.desks (λ i. row_answer (eqb i desk)
+        (compared_at (front_length (as_head head)) (row_length head.desks) own.now copy.now (k * suc head.desks + suc i)))) }
+    ensures marks { IfOk result (λ marks. AllMarked (as_head head) own.now copy.now marks) }
+{
+    let mut marks = [false; ROWS];
+    for k in 0..head.piles {
+        desks_answer(own, copy, head, k, desk, &mut marks)?;
+    }
+    Ok(marks)
 }
 
 // Do the pile numbers and the opening rows agree, pile by pile?
@@ -150,52 +88,48 @@ fn same_piles(own: &[u8], copy: &[u8], head: Head) -> bool
     ensures { result ≡ every head.piles (λ k. eqb (pile_number own.now k) (pile_number copy.now k)
         and is_alike (compared (opening_part (as_head head) k own.now) (opening_part (as_head head) k copy.now))) }
 {
-    let size = body_length(head.desks);
     let row = row_length(head.desks);
-    let mut at = front_length(head);
-    let p = head.piles;
-    let mut k: u8 = 0;
-    while k < p {
-        let entry = entry_at(k);
-        if entry_number(&own[entry..entry + ENTRY]) != entry_number(&copy[entry..entry + ENTRY]) {
+    for k in 0..head.piles {
+        if pile_number(own, k) != pile_number(copy, k)
+            || compare_at(own, copy, body_at(head, k), row) != Comparison::Alike
+        {
             return false;
         }
-        if !alike_at(own, copy, at, row) {
-            return false;
-        }
-        at += size;
-        k += 1;
     }
     true
 }
 
-// All lines of the table, in their order; where none is met, the marks say which rows are later in the copy.
-pub(crate) fn take_answer(own: &[u8], copy: &[u8], desk: u8, marks: &mut [bool]) -> u8
-    requires { Blank marks.old }
-    ensures answer { result ≡ take_answer desk own.now copy.now }
-    ensures marks { result ≡ 0 → AllMarked (head_of own.now) own.now copy.now marks.new }
+// What a copy is refused with, where a book is refused with this.
+fn of_copy(refusal: Refusal) -> Refusal
+    ensures { number_of refusal ≤ 7 → number_of result ≡ 20 + number_of refusal }
 {
-    let mine = check(own);
-    if mine != 0 {
-        return mine;
+    match refusal {
+        Refusal::BookShort => Refusal::CopyShort,
+        Refusal::HeadWrong => Refusal::CopyHeadWrong,
+        Refusal::LengthWrong => Refusal::CopyLengthWrong,
+        Refusal::ContentsWrong => Refusal::CopyContentsWrong,
+        Refusal::OpeningUnlawful => Refusal::CopyOpeningUnlawful,
+        Refusal::TallyWrong => Refusal::CopyTallyWrong,
+        Refusal::RightsNegative => Refusal::CopyRightsNegative,
+        // No book is refused with another.
+        other => other,
     }
-    let theirs = check(copy);
-    if theirs != 0 {
-        return OF_COPY + theirs;
-    }
+}
+
+// All lines of the table, in their order; where none is met, the marks that say which rows are later in the copy.
+pub(crate) fn take_answer(own: &[u8], copy: &[u8], desk: u8) -> Result<[bool; ROWS], Refusal>
+    ensures answer { answered result ≡ take_answer desk own.now copy.now }
+    ensures marks { IfOk result (λ marks. AllMarked (head_of own.now) own.now copy.now marks) }
+{
+    check(own)?;
+    check(copy).map_err(of_copy)?;
     let head = head_of(own);
     if head.desks <= desk {
-        return 11;
+        return Err(Refusal::DeskAbsent);
     }
     let other = head_of(copy);
-    if head.desks != other.desks {
-        return 30;
+    if head.desks != other.desks || head.piles != other.piles || !same_piles(own, copy, head) {
+        return Err(Refusal::OpeningDiffers);
     }
-    if head.piles != other.piles {
-        return 30;
-    }
-    if !same_piles(own, copy, head) {
-        return 30;
-    }
-    piles_answer(own, copy, head, desk, marks)
+    piles_answer(own, copy, head, desk)
 }

@@ -5,45 +5,27 @@
 mod judge;
 mod merge;
 
-ghost use Rattle.std.specs.Prelude.{◌≡◌};
+ghost use Rattle.std.specs.Prelude.{◌≡◌, IfOk};
 ghost use Rattle.rules.specs.Take.{take_answer, after_take, take_report};
+ghost use Rattle.refusal.specs.Answers.{answered};
 
 use judge::take_answer;
 use layout::head::{front_length, head_of, rows_of};
-use layout::lengths::{ROWS, row_length};
+use layout::lengths::row_length;
 use merge::{count_marks, take_rows};
-
-// What a take answers: its refusal's number or 0, and how many pile and desk pairs have another row now; 0 beside a refusal's number.
-#[derive(Clone, Copy)]
-pub struct Taken {
-    pub answer: u8,
-    pub changed: u32,
-}
+use refusal::Refusal;
 
 // Takes a copy of another desk's book into the own one, a state-based merge; refused with 1 to 7 for the own book, 21 to 27 for the copy, then 11, 30,
 // and by pile and desk 31 or 32. No row is written before the last pile is judged. A copy that changes no row leaves the book's bytes as they were.
-pub fn take(own: &mut [u8], copy: &[u8], desk: u8) -> Taken
-    ensures answer { result.answer ≡ take_answer desk own.old copy.now }
-    ensures changed { result.changed ≡ take_report desk own.old copy.now }
+pub fn take(own: &mut [u8], copy: &[u8], desk: u8) -> Result<u32, Refusal>
+    ensures answer { answered result ≡ take_answer desk own.old copy.now }
+    ensures changed { IfOk result (λ changed. changed ≡ take_report desk own.old copy.now) }
     ensures book { own.new ≡ after_take desk own.old copy.now }
 {
-    let mut marks = [false; ROWS];
-    let answer = take_answer(own, copy, desk, &mut marks);
-    if answer != 0 {
-        return Taken { answer, changed: 0 };
-    }
+    let marks = take_answer(own, copy, desk)?;
     let head = head_of(own);
     let rows = rows_of(head);
-    let changed = count_marks(&marks, rows);
-    if changed != 0 {
-        take_rows(
-            own,
-            copy,
-            front_length(head),
-            row_length(head.desks),
-            rows,
-            &marks,
-        );
-    }
-    Taken { answer: 0, changed }
+    let later = &marks[..rows];
+    take_rows(own, copy, front_length(head), row_length(head.desks), later);
+    Ok(count_marks(later))
 }

@@ -1,7 +1,7 @@
 // Writing the later rows of a copy into the taker's book, and counting them.
-ghost use Rattle.std.specs.Prelude.{◌≡◌, false, cond, ◌+◌, ◌*◌, ◌≤◌, length, get_or};
+ghost use Rattle.std.specs.Prelude.{◌≡◌, false, cond, ◌+◌, ◌*◌, ◌≤◌, length, get_or, count_by};
 ghost use Rattle.std.proofs.lemmas.List.Edits.{sets};
-ghost use Rattle.rules.specs.Loops.{flat, count};
+ghost use Rattle.rules.specs.Loops.{flat};
 ghost use Rattle.rules.specs.Numbers.{part};
 ghost use Rattle.take.specs.Inner.{InBoth, RowsInBoth};
 
@@ -10,49 +10,26 @@ fn copy_bytes(own: &mut [u8], copy: &[u8], at: usize, count: usize)
     requires { InBoth at count own.old copy.now }
     ensures { own.new ≡ sets own.old at (part at count copy.now) }
 {
-    let mut k = 0;
-    while k < count {
-        own[at + k] = copy[at + k];
-        k += 1;
-    }
+    own[at..at + count].copy_from_slice(&copy[at..at + count]);
 }
 
-// How many of the first so many rows are marked?
-pub(crate) fn count_marks(marks: &[bool], rows: usize) -> u32
-    requires { (rows ≤ 288) × (rows ≤ length marks.now) }
-    ensures { result ≡ count rows (λ k. get_or marks.now k false) }
+// How many rows are marked? A book has few enough that their number fits.
+pub(crate) fn count_marks(marks: &[bool]) -> u32
+    requires { length marks.now ≤ 288 }
+    ensures { result ≡ count_by (λ later. later) marks.now }
 {
-    let mut marked = 0;
-    let mut k = 0;
-    while k < rows {
-        if marks[k] {
-            marked += 1;
-        }
-        k += 1;
-    }
-    marked
+    marks.iter().filter(|later| **later).count() as u32
 }
 
 // Row after row, from a position on: those that are marked become the copy's.
-pub(crate) fn take_rows(
-    own: &mut [u8],
-    copy: &[u8],
-    at: usize,
-    row: usize,
-    rows: usize,
-    marks: &[bool],
-)
-    requires { RowsInBoth at row rows own.old copy.now × (rows ≤ length marks.now) }
-    ensures { own.new ≡ sets own.old at (flat rows (λ k.
+pub(crate) fn take_rows(own: &mut [u8], copy: &[u8], at: usize, row: usize, marks: &[bool])
+    requires { RowsInBoth at row (length marks.now) own.old copy.now }
+    ensures { own.new ≡ sets own.old at (flat (length marks.now) (λ k.
         cond (get_or marks.now k false) (part (at + k * row) row copy.now) (part (at + k * row) row own.old))) }
 {
-    let mut from = at;
-    let mut k = 0;
-    while k < rows {
-        if marks[k] {
-            copy_bytes(own, copy, from, row);
+    for (k, later) in marks.iter().enumerate() {
+        if *later {
+            copy_bytes(own, copy, at + k * row, row);
         }
-        from += row;
-        k += 1;
     }
 }

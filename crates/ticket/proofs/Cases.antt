@@ -8,9 +8,8 @@ use lib.ListN.{take, replicate}
 use lib.Seq.{sets}
 use Rattle.rules.proofs.Cases.Table.{Case, case, AllHold, all_hold, open_loops, open_refusals}
 use Rattle.ticket.specs.declared.Ticket.{Ticket}
-use Rattle.ticket.specs.declared.Reading.{Reading}
 use Rattle.ticket.specs.Packed.{pair_right, packed_number, packed_bytes, digits_right}
-use Rattle.ticket.specs.Tickets.{as_ticket, ticket_bytes, ticket_of, field_answer, fields_answer, read_answer, write_answer, reading, after_write}
+use Rattle.ticket.specs.Tickets.{Reading, as_ticket, ticket_bytes, ticket_of, field_answer, fields_answer, read_answer, write_answer, reading, after_write}
 
 -- ticket 12345678: 30 tonnes tipped onto pile 7 by desk 0. In hexadecimal 12 34 56 78 00 00 07 00 30 01 00.
 abbrev worked : Ticket

@@ -12,9 +12,8 @@ use Rattle.rules.specs.Pile.{amount_limit}
 use Rattle.rules.proofs.Loops.Refusals.{not_met}
 use Rattle.rules.proofs.Loops.Sets.{part_sets}
 use Rattle.ticket.specs.declared.Ticket.{Ticket}
-use Rattle.ticket.specs.declared.Reading.{Reading}
 use Rattle.ticket.specs.Packed.{packed_number, packed_bytes, digits_right}
-use Rattle.ticket.specs.Tickets.{ticket_length, number_limit, field_answer, read_answer, write_answer, reading, after_write}
+use Rattle.ticket.specs.Tickets.{Reading, ticket_length, number_limit, field_answer, read_answer, write_answer, reading, after_write}
 use Rattle.ticket.specs.Laws.{PackedForm}
 use Rattle.ticket.proofs.Digits.{one_packed_form}
 use Rattle.ticket.proofs.RoundTrip.{eleven, read_and_written, written_and_read, number_in_range}

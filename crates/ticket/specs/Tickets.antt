@@ -1,12 +1,13 @@
 -- Weighbridge tickets (3/12): 11 bytes, what they say, what is wrong with them, and what reading and writing one answers and leaves.
 -- Assumes nothing.
-use Rattle.std.specs.Prelude.{ℕ, Bool, true, not, List, [], ◌∷◌, ◌++◌, length, get_or, eqb, ltb}
+use Rattle.std.specs.Prelude.{ℕ, Result, Ok, Err, Bool, true, not, List, [], ◌∷◌, ◌++◌, length, get_or, eqb, ltb}
 use Rattle.std.proofs.lemmas.List.Edits.{sets}
 use Rattle.rules.specs.Loops.{between}
 use Rattle.rules.specs.Refusals.{◌when◌, ◌or_else◌, done}
 use Rattle.rules.specs.Pile.{amount_limit}
 use Rattle.ticket.specs.declared.Ticket.{Ticket}
-use Rattle.ticket.specs.declared.Reading.{Reading}
+use Rattle.refusal.specs.declared.Refusal.{Refusal}
+use Rattle.refusal.specs.Answers.{number_of}
 use Rattle.ticket.specs.Packed.{packed_number, packed_bytes, digits_right}
 
 abbrev pub ticket_length : ℕ
@@ -57,7 +58,11 @@ read_answer b =
 unfoldable pub write_answer : Ticket → List ℕ → ℕ
 write_answer t out = fields_answer true true true t or_else 8 when ltb (length out) ticket_length
 
--- what a reading hands back: its answer, and beside a refusal the ticket of all zeros
+-- what a reading hands back: its answer, and the ticket, which beside a refusal is that of all zeros
+pub record Reading : Type 0 where
+  pub answer : ℕ
+  pub ticket : Ticket
+
 abbrev pub no_ticket : Ticket
 no_ticket = as_ticket 0 0 0 0 0
 
@@ -66,6 +71,11 @@ handed_back answer ticket = record { answer = answer; ticket = ticket }
 
 unfoldable pub reading : List ℕ → Reading
 reading b = handed_back (read_answer b) (done (read_answer b) (ticket_of b) no_ticket)
+
+-- what the code hands back, as a reading: a refusal has no ticket beside it
+abbrev pub as_reading : Result Ticket Refusal → Reading
+as_reading (Ok ticket) = handed_back 0 ticket
+as_reading (Err refusal) = handed_back (number_of refusal) no_ticket
 
 -- what a writing leaves: the ticket from the buffer's start on, and every byte past it as it was; all of it as it was where it is refused
 unfoldable pub after_write : Ticket → List ℕ → List ℕ

@@ -1,9 +1,12 @@
-// What is wrong with the fields of a ticket, in their order.
-ghost use Rattle.std.specs.Prelude.{◌≡◌};
+// What is wrong with the fields of a ticket: each field's limits, and what is told of a value outside them.
+ghost use Rattle.std.specs.Prelude.{◌≡◌, not, IfOk, ltb};
 ghost use Rattle.rules.specs.Loops.{between};
-ghost use Rattle.ticket.specs.Tickets.{field_answer, fields_answer};
+ghost use Rattle.rules.specs.Pile.{amount_limit};
+ghost use Rattle.rules.specs.Refusals.{◌when◌};
+ghost use Rattle.refusal.specs.Answers.{number_of, answered};
+ghost use Rattle.ticket.specs.Tickets.{number_limit};
 
-use crate::Ticket;
+use refusal::Refusal;
 
 // Both limits are within.
 fn between(low: u32, high: u32, x: u32) -> bool
@@ -12,45 +15,56 @@ fn between(low: u32, high: u32, x: u32) -> bool
     low <= x && x <= high
 }
 
-// A packed field: its digits are asked before its value.
-fn field_answer(refusal: u8, low: u32, high: u32, right: bool, x: u32) -> u8
-    ensures { result ≡ field_answer refusal low high right x }
+// A value within its limits, or else this refusal.
+fn within(low: u32, high: u32, refusal: Refusal, x: u32) -> Result<u32, Refusal>
+    ensures answer { answered result ≡ number_of refusal when not (between low high x) }
+    ensures value { IfOk result (λ value. value ≡ x) }
 {
-    if !right {
-        return 33;
-    }
     if !between(low, high, x) {
-        return refusal;
+        return Err(refusal);
     }
-    0
+    Ok(x)
 }
 
-// All fields, with whether the digits of the three packed ones are right.
-pub(crate) fn fields_answer(
-    t: Ticket,
-    number_right: bool,
-    pile_right: bool,
-    tonnes_right: bool,
-) -> u8
-    ensures { result ≡ fields_answer number_right pile_right tonnes_right t }
+// A number that is read is never over its limit: four bytes with right digits say no more.
+pub(crate) fn number(x: u32) -> Result<u32, Refusal>
+    ensures answer { answered result ≡ 33 when not (between 0 number_limit x) }
+    ensures value { IfOk result (λ value. value ≡ x) }
 {
-    let number = field_answer(33, 0, 99_999_999, number_right, t.number);
-    if number != 0 {
-        return number;
+    within(0, 99_999_999, Refusal::DigitsWrong, x)
+}
+
+pub(crate) fn pile(x: u32) -> Result<u32, Refusal>
+    ensures answer { answered result ≡ 34 when not (between 1 65535 x) }
+    ensures value { IfOk result (λ value. value ≡ x) }
+{
+    within(1, 65_535, Refusal::TicketPileWrong, x)
+}
+
+pub(crate) fn tonnes(x: u32) -> Result<u32, Refusal>
+    ensures answer { answered result ≡ 13 when not (between 1 amount_limit x) }
+    ensures value { IfOk result (λ value. value ≡ x) }
+{
+    within(1, 1_000, Refusal::AmountWrong, x)
+}
+
+// 1 is a tip, and 2 a draw.
+pub(crate) fn kind(x: u8) -> Result<u8, Refusal>
+    ensures answer { answered result ≡ 35 when not (between 1 2 x) }
+    ensures value { IfOk result (λ value. value ≡ x) }
+{
+    if !between(1, 2, u32::from(x)) {
+        return Err(Refusal::KindOrDeskWrong);
     }
-    let pile = field_answer(34, 1, 65_535, pile_right, t.pile);
-    if pile != 0 {
-        return pile;
+    Ok(x)
+}
+
+pub(crate) fn desk(x: u8) -> Result<u8, Refusal>
+    ensures answer { answered result ≡ 35 when ltb 7 x }
+    ensures value { IfOk result (λ value. value ≡ x) }
+{
+    if 7 < x {
+        return Err(Refusal::KindOrDeskWrong);
     }
-    let tonnes = field_answer(13, 1, 1_000, tonnes_right, t.tonnes);
-    if tonnes != 0 {
-        return tonnes;
-    }
-    if !between(1, 2, t.kind as u32) {
-        return 35;
-    }
-    if 7 < t.desk {
-        return 35;
-    }
-    0
+    Ok(x)
 }

@@ -6,45 +6,21 @@ mod packed;
 
 ghost use Rattle.std.specs.Prelude.{◌≡◌, ◌≤◌, length};
 ghost use Rattle.std.proofs.lemmas.List.Edits.{sets};
-ghost use Rattle.ticket.specs.Tickets.{ticket_length, ticket_bytes, no_ticket, handed_back, reading, write_answer, after_write};
+ghost use Rattle.ticket.specs.Tickets.{ticket_length, ticket_bytes, as_reading, reading, write_answer, after_write};
+ghost use Rattle.refusal.specs.Answers.{answered};
 
-use fields::fields_answer;
+use fields::{desk, kind, number, pile, tonnes};
 use packed::{pack, unpack};
-
-// The answer of a writing that has no room.
-const NO_ROOM: u8 = 8;
+use refusal::Refusal;
 
 // A ticket by value: the load's number on the bridge, its pile and tonnes, its kind (1 tip, 2 draw) and its desk. Any values of the types.
-#[derive(Clone, Copy)]
+#[derive(Clone, Copy, Debug, PartialEq, Eq)]
 pub struct Ticket {
     pub number: u32,
     pub pile: u32,
     pub tonnes: u32,
     pub kind: u8,
     pub desk: u8,
-}
-
-// What a reading hands back: a refusal's number or 0, and the ticket, all zeros where it is refused.
-#[derive(Clone, Copy)]
-pub struct Reading {
-    pub answer: u8,
-    pub ticket: Ticket,
-}
-
-// A refusal, beside the ticket of all zeros.
-fn refused(answer: u8) -> Reading
-    ensures { result ≡ handed_back answer no_ticket }
-{
-    Reading {
-        answer,
-        ticket: Ticket {
-            number: 0,
-            pile: 0,
-            tonnes: 0,
-            kind: 0,
-            desk: 0,
-        },
-    }
 }
 
 // The ticket's bytes, from the buffer's start on.
@@ -63,42 +39,35 @@ impl Ticket {
     pub const LENGTH: usize = 11;
 
     // Reads a ticket; refused with 3 where there are not 11 bytes, then field by field with 33, 34, 13 or 35.
-    pub fn read(bytes: &[u8]) -> Reading
-        ensures { result ≡ reading bytes.now }
+    pub fn read(bytes: &[u8]) -> Result<Ticket, Refusal>
+        ensures { as_reading result ≡ reading bytes.now }
     {
         if bytes.len() != Ticket::LENGTH {
-            return refused(3);
+            return Err(Refusal::LengthWrong);
         }
-        let number = unpack(bytes, 0, 4);
-        let pile = unpack(bytes, 4, 3);
-        let tonnes = unpack(bytes, 7, 2);
-        let ticket = Ticket {
-            number: number.number,
-            pile: pile.number,
-            tonnes: tonnes.number,
-            kind: bytes[9],
-            desk: bytes[10],
-        };
-        let answer = fields_answer(ticket, number.right, pile.right, tonnes.right);
-        if answer != 0 {
-            return refused(answer);
-        }
-        Reading { answer, ticket }
+        Ok(Ticket {
+            number: number(unpack(bytes, 0, 4)?)?,
+            pile: pile(unpack(bytes, 4, 3)?)?,
+            tonnes: tonnes(unpack(bytes, 7, 2)?)?,
+            kind: kind(bytes[9])?,
+            desk: desk(bytes[10])?,
+        })
     }
 
     // Writes a ticket from a lent buffer's start on; refused with 33, 34, 13 or 35, and last with 8 where the buffer has no room. Bytes past the ticket stay.
-    pub fn write(self, out: &mut [u8]) -> u8
-        ensures answer { result ≡ write_answer self out.old }
+    pub fn write(self, out: &mut [u8]) -> Result<(), Refusal>
+        ensures answer { answered result ≡ write_answer self out.old }
         ensures out { out.new ≡ after_write self out.old }
     {
-        let refusal = fields_answer(self, true, true, true);
-        if refusal != 0 {
-            return refusal;
-        }
+        number(self.number)?;
+        pile(self.pile)?;
+        tonnes(self.tonnes)?;
+        kind(self.kind)?;
+        desk(self.desk)?;
         if out.len() < Ticket::LENGTH {
-            return NO_ROOM;
+            return Err(Refusal::BufferShort);
         }
         put(out, self);
-        0
+        Ok(())
     }
 }

@@ -1,7 +1,11 @@
 // Packed decimal in a byte slice: two digits a byte, the high digit first.
-ghost use Rattle.std.specs.Prelude.{◌≡◌, ◌+◌, ◌≤◌, ◌<◌, length};
+ghost use Rattle.std.specs.Prelude.{◌≡◌, ◌+◌, ◌≤◌, ◌<◌, not, IfOk, length};
 ghost use Rattle.std.proofs.lemmas.List.Edits.{sets};
+ghost use Rattle.rules.specs.Refusals.{◌when◌};
+ghost use Rattle.refusal.specs.Answers.{answered};
 ghost use Rattle.ticket.specs.Packed.{pair_number, pair_byte, pair_right, packed_number, packed_bytes, digits_right};
+
+use refusal::Refusal;
 
 // The number of a byte's two digits, whatever they are.
 fn pair_number(b: u8) -> u8
@@ -25,31 +29,21 @@ fn pair_byte(x: u8) -> u8
     16 * (x / 10) + x % 10
 }
 
-// What packed bytes say: whether all digits are right, and their number.
-#[derive(Clone, Copy)]
-pub(crate) struct Unpacked {
-    pub(crate) right: bool,
-    pub(crate) number: u32,
-}
-
-// The w bytes at a position, in one pass. Wrong digits are counted as they stand: with 4 bytes they stay far below 2³².
-pub(crate) fn unpack(s: &[u8], at: usize, w: usize) -> Unpacked
+// The number that the w bytes at a position say, in one pass; refused with 33 where a digit is above 9. Right digits keep the number within 2³².
+pub(crate) fn unpack(s: &[u8], at: usize, w: usize) -> Result<u32, Refusal>
     requires { (w ≤ 4) × (at + w ≤ length s.now) }
-    ensures right { result.right ≡ digits_right w s.now at }
-    ensures number { result.number ≡ packed_number w s.now at }
+    ensures answer { answered result ≡ 33 when not (digits_right w s.now at) }
+    ensures number { IfOk result (λ number. number ≡ packed_number w s.now at) }
 {
-    let mut right = true;
     let mut number = 0;
-    let mut k = 0;
-    while k < w {
+    for k in 0..w {
         let byte = s[at + k];
         if !pair_right(byte) {
-            right = false;
+            return Err(Refusal::DigitsWrong);
         }
-        number = 100 * number + pair_number(byte) as u32;
-        k += 1;
+        number = 100 * number + u32::from(pair_number(byte));
     }
-    Unpacked { right, number }
+    Ok(number)
 }
 
 // Writes a number over the w bytes at a position, which are there, the last two digits first.
@@ -58,9 +52,7 @@ pub(crate) fn pack(s: &mut [u8], at: usize, w: usize, x: u32)
     ensures { s.new ≡ sets s.old at (packed_bytes w x) }
 {
     let mut rest = x;
-    let mut k = w;
-    while 0 < k {
-        k -= 1;
+    for k in (0..w).rev() {
         s[at + k] = pair_byte((rest % 100) as u8);
         rest /= 100;
     }

@@ -2,75 +2,76 @@
 use book::{body, check, draw_rights, tip_rights, tonnage};
 use layout::lengths::body_length;
 use opening::open;
-use pile::{Amount, Pile};
-use samples::{amount, decimal, text};
+use pile::Pile;
+use refusal::{Refusal, answer};
+use samples::amount;
 use std::io;
 use store::{fetch, store};
 
-fn answer(rt: &impl Print, label: &[u8], x: u64) -> io::Result<()> {
-    text(rt, label)?;
-    text(rt, b": ")?;
-    decimal(rt, x)?;
-    text(rt, b"\n")
+fn number(rt: &impl Print, label: &str, x: usize) -> io::Result<()> {
+    println!(rt; "{label}: {x}")
 }
 
-fn reply(rt: &impl Print, label: &[u8], a: Amount) -> io::Result<()> {
-    text(rt, label)?;
-    text(rt, b":")?;
-    amount(rt, a)?;
-    text(rt, b"\n")
+fn told(rt: &impl Print, label: &str, told: Result<(), Refusal>) -> io::Result<()> {
+    println!(rt; "{label}: {}", answer(told))
+}
+
+fn reply(rt: &impl Print, label: &str, reply: Result<u32, Refusal>) -> io::Result<()> {
+    print!(rt; "{label}:")?;
+    amount(rt, reply)?;
+    println!(rt;)
 }
 
 // What a book of one pile 7 says of it.
 fn queries(rt: &impl Print, book: &[u8]) -> io::Result<()> {
-    reply(rt, b"tonnage of 7", tonnage(book, 7))?;
-    reply(rt, b"tonnage of 8", tonnage(book, 8))?;
-    reply(rt, b"draw rights of desk 0", draw_rights(book, 0, 7))?;
-    reply(rt, b"tip rights of desk 0", tip_rights(book, 0, 7))?;
-    reply(rt, b"tip rights of desk 2", tip_rights(book, 2, 7))?;
-    reply(rt, b"tip rights of desk 3", tip_rights(book, 3, 7))?;
-    reply(rt, b"tip rights of desk 3 in 8", tip_rights(book, 3, 8))?;
-    answer(rt, b"bytes of 7", body(book, 7).len() as u64)?;
-    answer(rt, b"bytes of 8", body(book, 8).len() as u64)
+    reply(rt, "tonnage of 7", tonnage(book, 7))?;
+    reply(rt, "tonnage of 8", tonnage(book, 8))?;
+    reply(rt, "draw rights of desk 0", draw_rights(book, 0, 7))?;
+    reply(rt, "tip rights of desk 0", tip_rights(book, 0, 7))?;
+    reply(rt, "tip rights of desk 2", tip_rights(book, 2, 7))?;
+    reply(rt, "tip rights of desk 3", tip_rights(book, 3, 7))?;
+    reply(rt, "tip rights of desk 3 in 8", tip_rights(book, 3, 8))?;
+    number(rt, "bytes of 7", body(book, 7).len())?;
+    number(rt, "bytes of 8", body(book, 8).len())
 }
 
 fn put_back(
     rt: &impl Print,
-    label: &[u8],
+    label: &str,
     book: &mut [u8],
     number: u16,
     pile: Pile,
 ) -> io::Result<()> {
-    answer(rt, label, store(book, number, pile) as u64)
+    told(rt, label, store(book, number, pile))
 }
 
-// A record fetched, acted on and stored again; then one whose opening differs.
+// A record fetched, acted on and stored again; then one whose opening differs. Nothing here is refused but the last.
 fn stored(rt: &impl Print, book: &mut [u8]) -> io::Result<()> {
     let fetched = fetch(book, 7);
-    answer(rt, b"fetch 7", fetched.answer as u64)?;
-    let acted = fetched.pile.tip(0, 30);
-    answer(rt, b"desk 0 tips 30", acted.answer as u64)?;
-    put_back(rt, b"store 7", book, 7, acted.pile)?;
+    println!(rt; "fetch 7: {}", answer(fetched.map(|_| ())))?;
+    let acted = fetched.unwrap_or(Pile::zero()).tip(0, 30);
+    told(rt, "desk 0 tips 30", acted.answer)?;
+    put_back(rt, "store 7", book, 7, acted.pile)?;
     let mut other = acted.pile;
     other.shares[8] = 30;
     other.shares[9] = 40;
-    put_back(rt, b"store 7 with other shares", book, 7, other)
+    put_back(rt, "store 7 with other shares", book, 7, other)
 }
 
 // Opens F in a lent buffer.
-fn open_f(rt: &impl Print, label: &[u8], out: &mut [u8]) -> io::Result<()> {
+fn open_f(rt: &impl Print, label: &str, out: &mut [u8]) -> io::Result<()> {
     let numbers = [7, 10, 110, 0, 0, 0, 40, 30, 30];
-    answer(rt, label, open(3, 1, &numbers, out) as u64)
+    told(rt, label, open(3, 1, &numbers, out))
 }
 
 fn checked(rt: &impl Print, book: &[u8]) -> io::Result<()> {
-    answer(rt, b"check F", check(book) as u64)
+    told(rt, "check F", check(book))
 }
 
 // F, in its 138 bytes.
 fn worked(rt: &impl Print) -> io::Result<()> {
     let mut out = [0u8; 138];
-    open_f(rt, b"open F", &mut out)?;
+    open_f(rt, "open F", &mut out)?;
     checked(rt, &out)?;
     queries(rt, &out)?;
     stored(rt, &mut out)?;
@@ -80,17 +81,17 @@ fn worked(rt: &impl Print) -> io::Result<()> {
 // One byte less, and one more: the last is not the book's.
 fn lengths(rt: &impl Print) -> io::Result<()> {
     let mut short = [9u8; 137];
-    open_f(rt, b"open F in 137 bytes", &mut short)?;
+    open_f(rt, "open F in 137 bytes", &mut short)?;
     checked(rt, &short)?;
     let mut long = [9u8; 139];
-    open_f(rt, b"open F in 139 bytes", &mut long)?;
+    open_f(rt, "open F in 139 bytes", &mut long)?;
     checked(rt, &long)
 }
 
 // The check of a book's first bytes alone.
-fn check_first(rt: &impl Print, label: &[u8], book: &[u8], count: usize) -> io::Result<()> {
+fn check_first(rt: &impl Print, label: &str, book: &[u8], count: usize) -> io::Result<()> {
     if count <= book.len() {
-        answer(rt, label, check(&book[0..count]) as u64)?;
+        told(rt, label, check(&book[0..count]))?;
     }
     Ok(())
 }
@@ -99,29 +100,23 @@ fn check_first(rt: &impl Print, label: &[u8], book: &[u8], count: usize) -> io::
 fn least(rt: &impl Print) -> io::Result<()> {
     let numbers = [1, 0, 0, 0, 0];
     let mut out = [0u8; 42];
-    answer(
+    told(
         rt,
-        b"open one pile of one desk",
-        open(1, 1, &numbers, &mut out) as u64,
+        "open one pile of one desk",
+        open(1, 1, &numbers, &mut out),
     )?;
-    check_first(rt, b"check its 42 bytes", &out, 42)?;
-    check_first(rt, b"check 41 of them", &out, 41)?;
-    check_first(rt, b"check 3 of them", &out, 3)
+    check_first(rt, "check its 42 bytes", &out, 42)?;
+    check_first(rt, "check 41 of them", &out, 41)?;
+    check_first(rt, "check 3 of them", &out, 3)
 }
 
 // How long a body is: the site manual's page, of 1 to 8 desks, and what lies outside it.
 fn body_sizes(rt: &impl Print) -> io::Result<()> {
-    answer(rt, b"body of 0 desks", body_length(0) as u64)?;
-    answer(rt, b"body of 1 desk", body_length(1) as u64)?;
-    answer(rt, b"body of 2 desks", body_length(2) as u64)?;
-    answer(rt, b"body of 3 desks", body_length(3) as u64)?;
-    answer(rt, b"body of 4 desks", body_length(4) as u64)?;
-    answer(rt, b"body of 5 desks", body_length(5) as u64)?;
-    answer(rt, b"body of 6 desks", body_length(6) as u64)?;
-    answer(rt, b"body of 7 desks", body_length(7) as u64)?;
-    answer(rt, b"body of 8 desks", body_length(8) as u64)?;
-    answer(rt, b"body of 9 desks", body_length(9) as u64)?;
-    answer(rt, b"body of 255 desks", body_length(255) as u64)
+    for n in [0, 1, 2, 3, 4, 5, 6, 7, 8, 9, 255] {
+        let word = if n == 1 { "desk" } else { "desks" };
+        println!(rt; "body of {n} {word}: {}", body_length(n))?;
+    }
+    Ok(())
 }
 
 pub(crate) fn run(rt: &impl Print) -> io::Result<()> {

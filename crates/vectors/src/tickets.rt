@@ -1,7 +1,7 @@
 // Weighbridge tickets: the worked one, the first and the last value of each field and what lies outside, and which of two faults is told.
 ghost use Rattle.std.specs.Prelude.{◌<◌};
 
-use samples::{decimal, text};
+use refusal::answer;
 use std::io;
 use ticket::Ticket;
 
@@ -12,29 +12,24 @@ const WORKED: [u8; BYTES] = [
     0x12, 0x34, 0x56, 0x78, 0x00, 0x00, 0x07, 0x00, 0x30, 0x01, 0x00,
 ];
 
-fn field(rt: &impl Print, x: u32) -> io::Result<()> {
-    text(rt, b" ")?;
-    decimal(rt, x as u64)
+fn fields(rt: &impl Print, told: u8, t: Ticket) -> io::Result<()> {
+    println!(rt;
+        " {told} {} {} {} {} {}",
+        t.number, t.pile, t.tonnes, t.kind, t.desk
+    )
 }
 
-// A reading's answer, and the ticket that it hands back.
-fn read(rt: &impl Print, label: &[u8], bytes: &[u8]) -> io::Result<()> {
-    let read = Ticket::read(bytes);
-    let t = read.ticket;
-    text(rt, b"read ")?;
-    text(rt, label)?;
-    text(rt, b":")?;
-    field(rt, read.answer as u32)?;
-    field(rt, t.number)?;
-    field(rt, t.pile)?;
-    field(rt, t.tonnes)?;
-    field(rt, t.kind as u32)?;
-    field(rt, t.desk as u32)?;
-    text(rt, b"\n")
+// A reading's answer, and the ticket that it hands back; of a refused one all is 0.
+fn read(rt: &impl Print, label: &str, bytes: &[u8]) -> io::Result<()> {
+    print!(rt; "read {label}:")?;
+    match Ticket::read(bytes) {
+        Ok(ticket) => fields(rt, 0, ticket),
+        Err(refusal) => fields(rt, refusal.into(), ticket_of(0, 0, 0, 0, 0)),
+    }
 }
 
 // The worked ticket with the bytes of one field replaced.
-fn read_number(rt: &impl Print, label: &[u8], a: u8, b: u8, c: u8, d: u8) -> io::Result<()> {
+fn read_number(rt: &impl Print, label: &str, a: u8, b: u8, c: u8, d: u8) -> io::Result<()> {
     let mut bytes = WORKED;
     bytes[0] = a;
     bytes[1] = b;
@@ -43,7 +38,7 @@ fn read_number(rt: &impl Print, label: &[u8], a: u8, b: u8, c: u8, d: u8) -> io:
     read(rt, label, &bytes)
 }
 
-fn read_pile(rt: &impl Print, label: &[u8], a: u8, b: u8, c: u8) -> io::Result<()> {
+fn read_pile(rt: &impl Print, label: &str, a: u8, b: u8, c: u8) -> io::Result<()> {
     let mut bytes = WORKED;
     bytes[4] = a;
     bytes[5] = b;
@@ -51,68 +46,40 @@ fn read_pile(rt: &impl Print, label: &[u8], a: u8, b: u8, c: u8) -> io::Result<(
     read(rt, label, &bytes)
 }
 
-fn read_tonnes(rt: &impl Print, label: &[u8], a: u8, b: u8) -> io::Result<()> {
+fn read_tonnes(rt: &impl Print, label: &str, a: u8, b: u8) -> io::Result<()> {
     let mut bytes = WORKED;
     bytes[7] = a;
     bytes[8] = b;
     read(rt, label, &bytes)
 }
 
-fn read_kind_and_desk(rt: &impl Print, label: &[u8], kind: u8, desk: u8) -> io::Result<()> {
+fn read_kind_and_desk(rt: &impl Print, label: &str, kind: u8, desk: u8) -> io::Result<()> {
     let mut bytes = WORKED;
     bytes[9] = kind;
     bytes[10] = desk;
     read(rt, label, &bytes)
 }
 
-// A hexadecimal digit.
-fn digit(rt: &impl Print, x: u8) -> io::Result<()>
-    requires { x < 16 }
-{
-    if x < 10 {
-        decimal(rt, x as u64)?;
-        return Ok(());
-    }
-    let letter = [b'a' + (x - 10)];
-    text(rt, &letter)
-}
-
-fn digits(rt: &impl Print, byte: u8) -> io::Result<()> {
-    text(rt, b" ")?;
-    digit(rt, byte / 16)?;
-    digit(rt, byte % 16)
-}
-
-fn hexadecimal(rt: &impl Print, bytes: &[u8]) -> io::Result<()> {
-    let mut k = 0;
-    while k < bytes.len() {
-        digits(rt, bytes[k])?;
-        k += 1;
-    }
-    Ok(())
-}
-
 fn write_first(
     rt: &impl Print,
-    label: &[u8],
+    label: &str,
     ticket: Ticket,
     out: &mut [u8],
     room: usize,
 ) -> io::Result<()> {
     if room <= out.len() {
-        let answer = ticket.write(&mut out[0..room]);
-        text(rt, b"write ")?;
-        text(rt, label)?;
-        text(rt, b":")?;
-        field(rt, answer as u32)?;
-        hexadecimal(rt, out)?;
-        text(rt, b"\n")?;
+        let told = ticket.write(&mut out[0..room]);
+        print!(rt; "write {label}: {}", answer(told))?;
+        for byte in &*out {
+            print!(rt; " {byte:02x}")?;
+        }
+        println!(rt;)?;
     }
     Ok(())
 }
 
 // A writing into the first bytes of a buffer of 13, all ee: its answer, and the whole buffer after it, in hexadecimal.
-fn write(rt: &impl Print, label: &[u8], ticket: Ticket, room: usize) -> io::Result<()> {
+fn write(rt: &impl Print, label: &str, ticket: Ticket, room: usize) -> io::Result<()> {
     let mut buffer = [0xeeu8; 13];
     write_first(rt, label, ticket, &mut buffer, room)
 }
@@ -129,41 +96,41 @@ fn ticket_of(number: u32, pile: u32, tonnes: u32, kind: u8, desk: u8) -> Ticket 
 
 // Each field at its limits and just outside: digits first, then values.
 fn fields_read(rt: &impl Print) -> io::Result<()> {
-    read_number(rt, b"number 0", 0x00, 0x00, 0x00, 0x00)?;
-    read_number(rt, b"number 99999999", 0x99, 0x99, 0x99, 0x99)?;
-    read_number(rt, b"number, first digit 10", 0xa0, 0x00, 0x00, 0x00)?;
-    read_number(rt, b"number, last digit 10", 0x12, 0x34, 0x56, 0x7a)?;
-    read_number(rt, b"number, last digit 15", 0x12, 0x34, 0x56, 0x7f)?;
-    read_pile(rt, b"pile, first digit 10", 0xa0, 0x00, 0x07)?;
-    read_pile(rt, b"pile, last digit 10", 0x00, 0x00, 0x0a)?;
-    read_pile(rt, b"pile 0", 0x00, 0x00, 0x00)?;
-    read_pile(rt, b"pile 1", 0x00, 0x00, 0x01)?;
-    read_pile(rt, b"pile 65535", 0x06, 0x55, 0x35)?;
-    read_pile(rt, b"pile 65536", 0x06, 0x55, 0x36)?;
-    read_pile(rt, b"pile 999999", 0x99, 0x99, 0x99)?;
-    read_tonnes(rt, b"tonnes, first digit 10", 0xa0, 0x30)?;
-    read_tonnes(rt, b"tonnes, last digit 10", 0x00, 0x3a)?;
-    read_tonnes(rt, b"tonnes 0", 0x00, 0x00)?;
-    read_tonnes(rt, b"tonnes 1", 0x00, 0x01)?;
-    read_tonnes(rt, b"tonnes 1000", 0x10, 0x00)?;
-    read_tonnes(rt, b"tonnes 1001", 0x10, 0x01)?;
-    read_tonnes(rt, b"tonnes 9999", 0x99, 0x99)?;
-    read_kind_and_desk(rt, b"kind 0", 0, 0)?;
-    read_kind_and_desk(rt, b"kind 2", 2, 0)?;
-    read_kind_and_desk(rt, b"kind 3", 3, 0)?;
-    read_kind_and_desk(rt, b"kind 255", 255, 0)?;
-    read_kind_and_desk(rt, b"desk 7", 1, 7)?;
-    read_kind_and_desk(rt, b"desk 8", 1, 8)?;
-    read_kind_and_desk(rt, b"desk 255", 1, 255)
+    read_number(rt, "number 0", 0x00, 0x00, 0x00, 0x00)?;
+    read_number(rt, "number 99999999", 0x99, 0x99, 0x99, 0x99)?;
+    read_number(rt, "number, first digit 10", 0xa0, 0x00, 0x00, 0x00)?;
+    read_number(rt, "number, last digit 10", 0x12, 0x34, 0x56, 0x7a)?;
+    read_number(rt, "number, last digit 15", 0x12, 0x34, 0x56, 0x7f)?;
+    read_pile(rt, "pile, first digit 10", 0xa0, 0x00, 0x07)?;
+    read_pile(rt, "pile, last digit 10", 0x00, 0x00, 0x0a)?;
+    read_pile(rt, "pile 0", 0x00, 0x00, 0x00)?;
+    read_pile(rt, "pile 1", 0x00, 0x00, 0x01)?;
+    read_pile(rt, "pile 65535", 0x06, 0x55, 0x35)?;
+    read_pile(rt, "pile 65536", 0x06, 0x55, 0x36)?;
+    read_pile(rt, "pile 999999", 0x99, 0x99, 0x99)?;
+    read_tonnes(rt, "tonnes, first digit 10", 0xa0, 0x30)?;
+    read_tonnes(rt, "tonnes, last digit 10", 0x00, 0x3a)?;
+    read_tonnes(rt, "tonnes 0", 0x00, 0x00)?;
+    read_tonnes(rt, "tonnes 1", 0x00, 0x01)?;
+    read_tonnes(rt, "tonnes 1000", 0x10, 0x00)?;
+    read_tonnes(rt, "tonnes 1001", 0x10, 0x01)?;
+    read_tonnes(rt, "tonnes 9999", 0x99, 0x99)?;
+    read_kind_and_desk(rt, "kind 0", 0, 0)?;
+    read_kind_and_desk(rt, "kind 2", 2, 0)?;
+    read_kind_and_desk(rt, "kind 3", 3, 0)?;
+    read_kind_and_desk(rt, "kind 255", 255, 0)?;
+    read_kind_and_desk(rt, "desk 7", 1, 7)?;
+    read_kind_and_desk(rt, "desk 8", 1, 8)?;
+    read_kind_and_desk(rt, "desk 255", 1, 255)
 }
 
 // Lengths beside 11, of bytes that are wrong otherwise too.
 fn lengths_read(rt: &impl Print) -> io::Result<()> {
     let wrong = [0xffu8; 12];
-    read(rt, b"no bytes", &wrong[0..0])?;
-    read(rt, b"10 bytes, digits wrong", &wrong[0..10])?;
-    read(rt, b"12 bytes, digits wrong", &wrong)?;
-    read(rt, b"10 bytes of the worked ticket", &WORKED[0..10])
+    read(rt, "no bytes", &wrong[0..0])?;
+    read(rt, "10 bytes, digits wrong", &wrong[0..10])?;
+    read(rt, "12 bytes, digits wrong", &wrong)?;
+    read(rt, "10 bytes of the worked ticket", &WORKED[0..10])
 }
 
 // Two faults at once: the one that comes first is told. Digits of 15 make a pile and tonnes that are out of range too.
@@ -171,96 +138,91 @@ fn two_faults_read(rt: &impl Print) -> io::Result<()> {
     let mut bytes = WORKED;
     bytes[9] = 0;
     bytes[10] = 8;
-    read(rt, b"kind 0, desk 8", &bytes)?;
+    read(rt, "kind 0, desk 8", &bytes)?;
     bytes[8] = 0;
-    read(rt, b"tonnes 0, kind 0", &bytes)?;
+    read(rt, "tonnes 0, kind 0", &bytes)?;
     bytes[7] = 0xff;
     bytes[8] = 0xff;
-    read(rt, b"tonnes all digits 15, kind 0", &bytes)?;
+    read(rt, "tonnes all digits 15, kind 0", &bytes)?;
     bytes[6] = 0;
-    read(rt, b"pile 0, tonnes all digits 15", &bytes)?;
-    read_pile(rt, b"pile all digits 15", 0xff, 0xff, 0xff)?;
+    read(rt, "pile 0, tonnes all digits 15", &bytes)?;
+    read_pile(rt, "pile all digits 15", 0xff, 0xff, 0xff)?;
     bytes[3] = 0x7a;
-    read(rt, b"number, last digit 10, pile 0", &bytes)
+    read(rt, "number, last digit 10, pile 0", &bytes)
 }
 
 // What is written at the limits of each field, and what is refused there.
 fn fields_written(rt: &impl Print) -> io::Result<()> {
-    write(rt, b"number 0", ticket_of(0, 7, 30, 1, 0), 11)?;
+    write(rt, "number 0", ticket_of(0, 7, 30, 1, 0), 11)?;
     write(
         rt,
-        b"number 99999999",
+        "number 99999999",
         ticket_of(99_999_999, 7, 30, 1, 0),
         11,
     )?;
     write(
         rt,
-        b"number 100000000",
+        "number 100000000",
         ticket_of(100_000_000, 7, 30, 1, 0),
         11,
     )?;
     write(
         rt,
-        b"number 4294967295",
+        "number 4294967295",
         ticket_of(4_294_967_295, 7, 30, 1, 0),
         11,
     )?;
-    write(rt, b"pile 0", ticket_of(12345678, 0, 30, 1, 0), 11)?;
-    write(rt, b"pile 1", ticket_of(12345678, 1, 30, 1, 0), 11)?;
-    write(rt, b"pile 65535", ticket_of(12345678, 65_535, 30, 1, 0), 11)?;
-    write(rt, b"pile 65536", ticket_of(12345678, 65_536, 30, 1, 0), 11)?;
+    write(rt, "pile 0", ticket_of(12345678, 0, 30, 1, 0), 11)?;
+    write(rt, "pile 1", ticket_of(12345678, 1, 30, 1, 0), 11)?;
+    write(rt, "pile 65535", ticket_of(12345678, 65_535, 30, 1, 0), 11)?;
+    write(rt, "pile 65536", ticket_of(12345678, 65_536, 30, 1, 0), 11)?;
     write(
         rt,
-        b"pile 4294967295",
+        "pile 4294967295",
         ticket_of(12345678, 4_294_967_295, 30, 1, 0),
         11,
     )?;
-    write(rt, b"tonnes 0", ticket_of(12345678, 7, 0, 1, 0), 11)?;
-    write(rt, b"tonnes 1", ticket_of(12345678, 7, 1, 1, 0), 11)?;
-    write(rt, b"tonnes 1000", ticket_of(12345678, 7, 1000, 1, 0), 11)?;
-    write(rt, b"tonnes 1001", ticket_of(12345678, 7, 1001, 1, 0), 11)?;
+    write(rt, "tonnes 0", ticket_of(12345678, 7, 0, 1, 0), 11)?;
+    write(rt, "tonnes 1", ticket_of(12345678, 7, 1, 1, 0), 11)?;
+    write(rt, "tonnes 1000", ticket_of(12345678, 7, 1000, 1, 0), 11)?;
+    write(rt, "tonnes 1001", ticket_of(12345678, 7, 1001, 1, 0), 11)?;
     write(
         rt,
-        b"tonnes 4294967295",
+        "tonnes 4294967295",
         ticket_of(12345678, 7, 4_294_967_295, 1, 0),
         11,
     )?;
-    write(rt, b"kind 0", ticket_of(12345678, 7, 30, 0, 0), 11)?;
-    write(rt, b"kind 2", ticket_of(12345678, 7, 30, 2, 0), 11)?;
-    write(rt, b"kind 3", ticket_of(12345678, 7, 30, 3, 0), 11)?;
-    write(rt, b"desk 7", ticket_of(12345678, 7, 30, 1, 7), 11)?;
-    write(rt, b"desk 8", ticket_of(12345678, 7, 30, 1, 8), 11)
+    write(rt, "kind 0", ticket_of(12345678, 7, 30, 0, 0), 11)?;
+    write(rt, "kind 2", ticket_of(12345678, 7, 30, 2, 0), 11)?;
+    write(rt, "kind 3", ticket_of(12345678, 7, 30, 3, 0), 11)?;
+    write(rt, "desk 7", ticket_of(12345678, 7, 30, 1, 7), 11)?;
+    write(rt, "desk 8", ticket_of(12345678, 7, 30, 1, 8), 11)
 }
 
 fn two_faults_written(rt: &impl Print) -> io::Result<()> {
     write(
         rt,
-        b"number 100000000, pile 0",
+        "number 100000000, pile 0",
         ticket_of(100_000_000, 0, 30, 1, 0),
         11,
     )?;
-    write(rt, b"pile 0, tonnes 0", ticket_of(12345678, 0, 0, 1, 0), 11)?;
-    write(rt, b"tonnes 0, kind 0", ticket_of(12345678, 7, 0, 0, 0), 11)?;
-    write(rt, b"kind 0, desk 8", ticket_of(12345678, 7, 30, 0, 8), 11)?;
-    write(
-        rt,
-        b"kind 0, 10 bytes",
-        ticket_of(12345678, 7, 30, 0, 0),
-        10,
-    )?;
-    write(rt, b"desk 8, no bytes", ticket_of(12345678, 7, 30, 1, 8), 0)?;
-    write(rt, b"10 bytes", ticket_of(12345678, 7, 30, 1, 0), 10)?;
-    write(rt, b"no bytes", ticket_of(12345678, 7, 30, 1, 0), 0)
+    write(rt, "pile 0, tonnes 0", ticket_of(12345678, 0, 0, 1, 0), 11)?;
+    write(rt, "tonnes 0, kind 0", ticket_of(12345678, 7, 0, 0, 0), 11)?;
+    write(rt, "kind 0, desk 8", ticket_of(12345678, 7, 30, 0, 8), 11)?;
+    write(rt, "kind 0, 10 bytes", ticket_of(12345678, 7, 30, 0, 0), 10)?;
+    write(rt, "desk 8, no bytes", ticket_of(12345678, 7, 30, 1, 8), 0)?;
+    write(rt, "10 bytes", ticket_of(12345678, 7, 30, 1, 0), 10)?;
+    write(rt, "no bytes", ticket_of(12345678, 7, 30, 1, 0), 0)
 }
 
 pub(crate) fn run(rt: &impl Print) -> io::Result<()> {
     write(
         rt,
-        b"the worked ticket",
+        "the worked ticket",
         ticket_of(12345678, 7, 30, 1, 0),
         13,
     )?;
-    read(rt, b"the worked ticket", &WORKED)?;
+    read(rt, "the worked ticket", &WORKED)?;
     fields_read(rt)?;
     lengths_read(rt)?;
     two_faults_read(rt)?;

@@ -1,64 +1,61 @@
 -- `act_refusal` asks the lines of the table in their order.
+use Prim.Native.Nat.{ℕ, ◌+◌, ◌≤◌, ◌<◌}
 use native.Mathlib.Omega.{arith}
 use mathlib.Core.Path.{◌≡◌}
-use mathlib.Core.Bool.{false}
+use mathlib.Core.Logic.{◌⊎◌, inl, inr, ◌≢◌}
+use mathlib.Core.Bool.{true, false}
 use lib.Dec.{ltb, eqb}
 use borrow.Author.Tests.{eq-eqb, ne_eqb, lt-ltb, le-ltb}
 use Rattle.rules.specs.Loops.{◌or◌}
 use Rattle.rules.specs.Refusals.{◌when◌, ◌or_else◌}
-use Rattle.rules.specs.Pile.{amount_limit}
+use Rattle.rules.specs.Pile.{tally_limit, amount_limit}
 use Rattle.rules.proofs.Loops.Logic.{or_first, or_second, or_neither}
 use Rattle.act_lines.proofs.act_refusal.Goals as goal
-use Rattle.act_lines.proofs.act_refusal.Goals.{Else-amount-gt-AMOUNT_LIMIT}
 
--- past the third test the amount is one
-asked : (c : Else-amount-gt-AMOUNT_LIMIT) → let t = c.args.amount in eqb t 0 or ltb amount_limit t ≡ false
-asked c = or_neither (ne_eqb _ 0 c.if-amount-eq0.false) (le-ltb _ _ c.if-amount-gt-AMOUNT_LIMIT.false)
+-- the line of the amount
+wrong : (t : ℕ) → (t ≡ 0) ⊎ ((t ≢ 0) × (amount_limit < t)) → eqb t 0 or ltb amount_limit t ≡ true
+wrong t (inl none) = or_first (eq-eqb t 0 none) _
+wrong t (inr most) = or_second _ (lt-ltb _ _ most.1)
 
-pub returns-then-wrong : goal.returns-then-wrong
+right : (t : ℕ) → t ≢ 0 → t ≤ amount_limit → eqb t 0 or ltb amount_limit t ≡ false
+right t some most = or_neither (ne_eqb t 0 some) (le-ltb _ _ most)
+
+pub returns-then-wrong-clause-answer : goal.returns-then-wrong-clause-answer
 unfolding ◌when◌ ◌or_else◌
-returns-then-wrong c =
-    record {
-      answer = rw c.if-wrong.true;
-      room = λ z. absurd (omega arith);
-    }
+returns-then-wrong-clause-answer c = rw c.if-wrong.true
 
-pub returns-then-amount-eq0 : goal.returns-then-amount-eq0
+pub returns-then-amount-eq0-clause-answer : goal.returns-then-amount-eq0-clause-answer
 unfolding ◌when◌ ◌or_else◌
-returns-then-amount-eq0 c =
-    record {
-      answer = rw (c.if-wrong.false, or_first (eq-eqb _ 0 c.if-amount-eq0.true) _);
-      room = λ z. absurd (omega arith);
-    }
+returns-then-amount-eq0-clause-answer c = rw (c.if-wrong.false, wrong c.args.amount c.then-amount-eq0.either)
 
-pub returns-then-amount-gt-AMOUNT_LIMIT : goal.returns-then-amount-gt-AMOUNT_LIMIT
+pub returns-then-rights-from-clause-answer : goal.returns-then-rights-from-clause-answer
 unfolding ◌when◌ ◌or_else◌
-returns-then-amount-gt-AMOUNT_LIMIT c =
-    record {
-      answer = rw (c.if-wrong.false, or_second _ (lt-ltb _ _ c.if-amount-gt-AMOUNT_LIMIT.true));
-      room = λ z. absurd (omega arith);
-    }
+returns-then-rights-from-clause-answer c =
+    let a = c.args in
+    rw (
+      c.if-wrong.false,
+      right a.amount c.if-amount-eq0.false c.if-amount-gt-AMOUNT_LIMIT.false,
+      lt-ltb a.rights a.amount (omega arith),
+    )
 
-pub returns-then-rights-amount : goal.returns-then-rights-amount
+pub returns-then-from-gt-TALLY_LIMIT-clause-answer : goal.returns-then-from-gt-TALLY_LIMIT-clause-answer
 unfolding ◌when◌ ◌or_else◌
-returns-then-rights-amount c =
-    record {
-      answer = rw (c.if-wrong.false, asked (goal.at.returns-then-rights-amount c).Else-amount-gt-AMOUNT_LIMIT, lt-ltb _ _ c.if-rights-amount.true);
-      room = λ z. absurd (omega arith);
-    }
+returns-then-from-gt-TALLY_LIMIT-clause-answer c =
+    let a = c.args in
+    rw (
+      c.if-wrong.false,
+      right a.amount c.if-amount-eq0.false c.if-amount-gt-AMOUNT_LIMIT.false,
+      le-ltb a.rights a.amount (omega arith),
+      lt-ltb tally_limit (a.tally + a.amount) (omega arith),
+    )
 
-pub returns-then-tally-amount-gt-TALLY_LIMIT : goal.returns-then-tally-amount-gt-TALLY_LIMIT
+pub returns-clause-answer : goal.returns-clause-answer
 unfolding ◌when◌ ◌or_else◌
-returns-then-tally-amount-gt-TALLY_LIMIT c =
-    record {
-      answer = rw (c.if-wrong.false, asked (goal.at.returns-then-tally-amount-gt-TALLY_LIMIT c).Else-amount-gt-AMOUNT_LIMIT, le-ltb _ _ c.if-rights-amount.false, lt-ltb _ _ c.if-tally-amount-gt-TALLY_LIMIT.true);
-      room = λ z. absurd (omega arith);
-    }
-
-pub returns : goal.returns
-unfolding ◌when◌ ◌or_else◌
-returns c =
-    record {
-      answer = rw (c.if-wrong.false, asked (goal.at.returns c).Else-amount-gt-AMOUNT_LIMIT, le-ltb _ _ c.if-rights-amount.false, le-ltb _ _ c.if-tally-amount-gt-TALLY_LIMIT.false);
-      room = λ _. (c.if-wrong.false, c.if-tally-amount-gt-TALLY_LIMIT.false);
-    }
+returns-clause-answer c =
+    let a = c.args in
+    rw (
+      c.if-wrong.false,
+      right a.amount c.if-amount-eq0.false c.if-amount-gt-AMOUNT_LIMIT.false,
+      le-ltb a.rights a.amount (omega arith),
+      le-ltb tally_limit (a.tally + a.amount) (omega arith),
+    )

@@ -52,30 +52,18 @@ loop-i-init c =
     let a = c.args in
     let floor : c.cell-had.result ≡ (first_body a.n (rest a.at a.bytes.now)).floor
     = c.cell-had.ensures.0 ∙ ap (λ (k : ℕ). number 4 (rest a.at a.bytes.now) (cell_at a.n 0 k)) c.earned_column.ensures in
-    (search rules, omega (arith, c.cell-had.ensures.1), search rules, omega (arith, floor), search rules)
+    (omega (arith, c.cell-had.ensures.1), search rules, omega (arith, floor), search rules)
 
 pub cell-requires : goal.cell-requires
 cell-requires c = on_column (within (goal.at.cell-requires c).Else-not-body_there) (omega arith) draw c.loop-i-test.true c.side_column.ensures
-
-pub overflow_add-had : goal.overflow_add-had
-overflow_add-had c =
-    omega (arith, c.loop-i.invariant, c.loop-i-test.true, c.cell.ensures.1, (within (goal.at.overflow_add-had c).Else-not-body_there).desks_most)
 
 pub cell-requires-in-loop-i : goal.cell-requires-in-loop-i
 cell-requires-in-loop-i c =
     on_earned (within (goal.at.cell-requires-in-loop-i c).Else-not-body_there) (omega (arith, c.loop-i-test.true)) draw c.earned_column-in-loop-i.ensures
 
-pub overflow_add-had-in-loop-i : goal.overflow_add-had-in-loop-i
-overflow_add-had-in-loop-i c =
-    omega (arith, c.loop-i.invariant, c.loop-i-test.true, c.cell.ensures.1, c.cell-in-loop-i.ensures.1, (within (goal.at.overflow_add-had-in-loop-i c).Else-not-body_there).desks_most)
-
 pub cell-drawn-requires : goal.cell-drawn-requires
 cell-drawn-requires c =
     on_earned (within (goal.at.cell-drawn-requires c).Else-not-body_there) (omega (arith, c.loop-i-test.true)) tip c.earned_column-in-loop-i-2.ensures
-
-pub overflow_add-drawn : goal.overflow_add-drawn
-overflow_add-drawn c =
-    omega (arith, c.loop-i.invariant, c.loop-i-test.true, c.cell-drawn.ensures.1, (within (goal.at.overflow_add-drawn c).Else-not-body_there).desks_most)
 
 pub loop-i-preserved : goal.loop-i-preserved
 loop-i-preserved c =
@@ -86,11 +74,10 @@ loop-i-preserved c =
     let share = share_is a.n b draw i c.cell.ensures.0 c.side_column.ensures in
     let tipped = earned_is a.n b draw i c.cell-in-loop-i.ensures.0 c.earned_column-in-loop-i.ensures in
     let drawn = earned_is a.n b tip i c.cell-drawn.ensures.0 c.earned_column-in-loop-i-2.ensures in (
-      search rules,
-      omega (arith, c.loop-i.invariant.1, c.cell.ensures.1, c.cell-in-loop-i.ensures.1),
-      omega (arith, c.loop-i.invariant.2, c.cell-drawn.ensures.1),
-      omega (arith, c.loop-i.invariant.3, share, tipped, sum_next i (p.share draw), sum_next i (p.earned draw)),
-      omega (arith, c.loop-i.invariant.4, drawn, sum_next i (p.earned tip)),
+      omega (arith, c.loop-i.invariant.0, c.cell.ensures.1, c.cell-in-loop-i.ensures.1),
+      omega (arith, c.loop-i.invariant.1, c.cell-drawn.ensures.1),
+      omega (arith, c.loop-i.invariant.2, share, tipped, sum_next i (p.share draw), sum_next i (p.earned draw)),
+      omega (arith, c.loop-i.invariant.3, drawn, sum_next i (p.earned tip)),
     )
 
 -- the tonnage, of its parts
@@ -103,6 +90,6 @@ pub returns : goal.returns
 returns c =
     let a = c.args in
     let done : c.loop-i.i ≡ a.n = omega arith in
-    c.less.ensures
-    ∙ tonnage_of_lem a.n (first_body a.n (bytes (goal.at.returns c).At-loop-i)) (rw done at c.loop-i.invariant.3) (rw done at c.loop-i.invariant.4)
+    c.saturating_sub.ensures
+    ∙ tonnage_of_lem a.n (first_body a.n (bytes (goal.at.returns c).At-loop-i)) (rw done at c.loop-i.invariant.2) (rw done at c.loop-i.invariant.3)
     ∙ tonnage_read a.n a.at a.bytes.now (there (goal.at.returns c).Else-not-body_there)

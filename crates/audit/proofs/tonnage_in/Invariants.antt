@@ -1,5 +1,5 @@
 -- `tonnage_in` adds up the draw shares and what was tipped, and what was drawn, of one desk after the other, where there is such a body.
-use Prim.Native.Nat.{◌+◌, ◌-◌, ◌*◌, ◌≤◌}
+use Prim.Native.Nat.{◌+◌, ◌*◌, ◌≤◌}
 use mathlib.Core.Path.{◌≡◌}
 use Rattle.rules.specs.Loops.{sum}
 use Rattle.rules.specs.Pile.{draw, tip}
@@ -9,8 +9,5 @@ use Rattle.audit.proofs.tonnage_in.Given as goal
 abbrev pub invariant-loop-i : goal.invariant-loop-i
 invariant-loop-i l =
     let p = first_body l.n l.body in
-    (l.i ≤ l.n) × (l.had ≤ (2 * l.i + 1) * 4294967295) × (l.drawn ≤ l.i * 4294967295)
+    (l.had ≤ (2 * l.i + 1) * 4294967295) × (l.drawn ≤ l.i * 4294967295)
     × (l.had ≡ p.floor + sum l.i (p.share draw) + sum l.i (p.earned draw)) × (l.drawn ≡ sum l.i (p.earned tip))
-
-abbrev pub decreases-loop-i : goal.decreases-loop-i
-decreases-loop-i l = l.n - l.i

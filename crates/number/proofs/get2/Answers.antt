@@ -2,14 +2,11 @@
 use Prim.Native.Nat.{suc, ◌+◌}
 use mathlib.Core.Path.{sym, ◌∙◌}
 use native.Mathlib.Omega.{arith}
-use borrow.Author.Tests.{ltb-true, ltb-false}
+use borrow.Author.Tests.{ltb-true}
 use lib.ListN.{length}
 use Rattle.rules.specs.Numbers.{number}
 use Rattle.number.proofs.Laws.{number_past}
 use Rattle.number.proofs.get2.Goals as goal
-
-pub pair-requires : goal.pair-requires
-pair-requires c = ltb-false _ _ (sym c.short.ensures ∙ c.if-not-short.true)
 
 pub returns-then-at-s : goal.returns-then-at-s
 unfolding number

@@ -6,4 +6,4 @@ use Rattle.number.proofs.pair.Goals as goal
 
 pub returns : goal.returns
 unfolding number
-returns c = rw (← add-one c.args.at) (omega arith)
+returns c = rw (← add-one c.args.at) (omega (arith, c.from_le_bytes.ensures))

@@ -1,5 +1,4 @@
 -- `side_rights` stores one desk's rights after the other.
-use Prim.Native.Nat.{◌-◌, ◌≤◌}
 use mathlib.Core.Path.{◌≡◌}
 use Rattle.rules.specs.Loops.{list}
 use Rattle.rules.specs.Pile.{side_of}
@@ -9,7 +8,4 @@ use Rattle.audit.specs.Audits.{rights_in}
 use Rattle.audit.proofs.accounts.side_rights.Given as goal
 
 abbrev pub invariant-loop-i : goal.invariant-loop-i
-invariant-loop-i l = (l.i ≤ l.n) × (l.rights ≡ list desk_limit (padded l.i (rights_in (side_of l.side) l.n l.at l.bytes)))
-
-abbrev pub decreases-loop-i : goal.decreases-loop-i
-decreases-loop-i l = l.n - l.i
+invariant-loop-i l = (l.rights ≡ list desk_limit (padded l.i (rights_in (side_of l.side) l.n l.at l.bytes)))

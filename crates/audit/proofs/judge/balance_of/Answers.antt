@@ -3,7 +3,7 @@
 use Prim.Native.Nat.{ℕ, ◌+◌, ◌≤◌, ◌<◌}
 use native.Mathlib.Omega.{arith}
 use mathlib.Core.Path.{◌≡◌, refl, ap, ◌∙◌}
-use lib.ListN.{length, get_or}
+use lib.ListN.{length}
 use lib.Dec.{leb}
 use Rattle.rules.specs.Loops.{sum, every}
 use Rattle.rules.specs.Numbers.{number}
@@ -18,7 +18,7 @@ use Rattle.audit.proofs.Places.{earned_is, in_row, row_after}
 use Rattle.audit.proofs.Account.{credit_at, debit_at, cleared, kept, covered_next}
 use borrow.Author.Rules.{rules}
 use Rattle.audit.proofs.judge.balance_of.Goals as goal
-use Rattle.audit.proofs.judge.balance_of.Goals.{then-draw_credit-draw_given, else-draw_credit-draw_given, then-tip_credit-tip_given, else-tip_credit-tip_given, After-cell_at, After-cell_at-in-loop-i, After-word-drawn, At-loop-i, In-loop-i}
+use Rattle.audit.proofs.judge.balance_of.Goals.{then-draw_credit-totals, else-draw_credit-totals, then-tip_credit-totals, else-tip_credit-totals, After-cell_at, After-cell_at-in-loop-i, After-word-drawn, At-loop-i, In-loop-i}
 
 abbrev P : After-word-drawn → Pile
 P c = let a = c.args in first_body a.n a.body.now
@@ -36,13 +36,13 @@ module _ (c : In-loop-i) where
   unfolding cell_at
   row_most =
       let a = c.args in
-      omega (arith, c.loop-i.invariant.1, body.row_within a.n (c.loop-i.i + 1) (omega arith), body_most a.n c.requires.body.desks_most)
+      omega (arith, c.loop-i.invariant.0, body.row_within a.n (c.loop-i.i + 1) (omega arith), body_most a.n c.requires.body.desks_most)
 
   -- where the code reads
   place : {x : ℕ} (k : ℕ) → let a = c.args in x ≡ cell_at a.n 0 k → c.loop-i.row + x ≡ cell_at a.n (c.loop-i.i + 1) k
   place k e =
       let a = c.args in
-      ap (λ (y : ℕ). c.loop-i.row + y) e ∙ in_row a.n c.loop-i.i k c.loop-i.invariant.1
+      ap (λ (y : ℕ). c.loop-i.row + y) e ∙ in_row a.n c.loop-i.i k c.loop-i.invariant.0
 
 -- the place of what the desk tipped, and of what it drew
 tip_place : (c : After-cell_at) → (c.loop-i.row + c.cell_at.result ≡ cell_at c.args.n (c.loop-i.i + 1) c.earned_column.result)
@@ -52,19 +52,6 @@ tip_place c = (place (goal.at.After-cell_at c).In-loop-i _ c.cell_at.ensures, om
 drawn_place : (c : After-cell_at-in-loop-i) → (c.loop-i.row + c.cell_at-in-loop-i.result ≡ cell_at c.args.n (c.loop-i.i + 1) c.earned_column-in-loop-i.result)
     × (c.earned_column-in-loop-i.result < columns c.args.n)
 drawn_place c = (place (goal.at.After-cell_at-in-loop-i c).In-loop-i _ c.cell_at-in-loop-i.ensures, omega (arith, c.earned_column-in-loop-i.ensures))
-
--- its totals are small, so that no sum wraps
-most : (c : After-word-drawn) → let a = c.args in let i = c.loop-i.i in
-    (get_or a.draws.now i 0 ≤ 38654705664) × (get_or a.draw_given.now i 0 ≤ 34359738368)
-    × (get_or a.tips.now i 0 ≤ 38654705664) × (get_or a.tip_given.now i 0 ≤ 34359738368)
-most c =
-    let i = c.loop-i.i in
-    let l = c.loop-i-test.true in (
-      omega (arith, c.requires.body.desks_most, c.requires.draws.totals_most i l),
-      c.requires.draws.made_most i l,
-      omega (arith, c.requires.body.desks_most, c.requires.tips.totals_most i l),
-      c.requires.tips.made_most i l,
-    )
 
 -- what the desk drew and what it tipped
 drawn : (c : After-word-drawn) → c.word-drawn.result ≡ (P c).earned tip c.loop-i.i
@@ -81,7 +68,7 @@ tipped c =
 
 pub loop-i-init : goal.loop-i-init
 unfolding every sum
-loop-i-init c = (search rules, c.cell_at-row.ensures, search rules, refl, refl)
+loop-i-init c = (c.cell_at-row.ensures, search rules, refl, refl)
 
 pub overflow_add-row : goal.overflow_add-row
 overflow_add-row c = let p = tip_place (goal.at.overflow_add-row c).After-cell_at in omega (arith, p.0, within (goal.at.overflow_add-row c).In-loop-i _ p.1)
@@ -95,52 +82,33 @@ overflow_add-row-in-loop-i c = let p = drawn_place (goal.at.overflow_add-row-in-
 pub word-drawn-requires : goal.word-drawn-requires
 word-drawn-requires c = let p = drawn_place (goal.at.word-drawn-requires c).After-cell_at-in-loop-i in omega (arith, p.0, within (goal.at.word-drawn-requires c).In-loop-i _ p.1)
 
-pub overflow_add-draw_credit : goal.overflow_add-draw_credit
-overflow_add-draw_credit c = search (rules, most (goal.at.overflow_add-draw_credit c).After-word-drawn)
-
-pub overflow_add-tip_credit : goal.overflow_add-tip_credit
-overflow_add-tip_credit c = search (rules, most (goal.at.overflow_add-tip_credit c).After-word-drawn)
-
-pub overflow_add-draw_given : goal.overflow_add-draw_given
-overflow_add-draw_given c = search (rules, most (goal.at.overflow_add-draw_given c).After-word-drawn)
-
-pub overflow_add-tip_given : goal.overflow_add-tip_given
-overflow_add-tip_given c = search (rules, most (goal.at.overflow_add-tip_given c).After-word-drawn)
-
-pub overflow_add-credits : goal.overflow_add-credits
-overflow_add-credits c = search (rules, most (goal.at.overflow_add-credits c).After-word-drawn)
-
-pub overflow_add-credits-in-loop-i : goal.overflow_add-credits-in-loop-i
-overflow_add-credits-in-loop-i c = search (rules, most (goal.at.overflow_add-credits-in-loop-i c).After-word-drawn)
-
 pub overflow_add-row-in-loop-i-2 : goal.overflow_add-row-in-loop-i-2
 overflow_add-row-in-loop-i-2 c =
     omega (arith, size_is (goal.at.overflow_add-row-in-loop-i-2 c).At-loop-i, row_most (goal.at.overflow_add-row-in-loop-i-2 c).In-loop-i)
 
 pub loop-i-preserved : goal.loop-i-preserved
 loop-i-preserved c =
-    let i<n = c.loop-i-test.true in
+    let i<n : c.loop-i.i < c.args.n = omega arith in
     let draws = credit_at c.requires.draws c.loop-i.i i<n (tipped (goal.at.loop-i-preserved c).After-word-drawn) in
     let tips = credit_at c.requires.tips c.loop-i.i i<n (drawn (goal.at.loop-i-preserved c).After-word-drawn) in (
-      search rules,
-      omega (arith, size_is (goal.at.loop-i-preserved c).At-loop-i, row_after c.args.n c.loop-i.i c.loop-i.invariant.1),
-      omega (arith, most (goal.at.loop-i-preserved c).After-word-drawn),
-      covered_next (λ k s. leb (debit _ (P (goal.at.loop-i-preserved c).After-word-drawn) s k) (credit _ (P (goal.at.loop-i-preserved c).After-word-drawn) s k)) c.loop-i.i {one = c.if-draw_credit-draw_given.covered} c.loop-i.invariant.3
+      omega (arith, size_is (goal.at.loop-i-preserved c).At-loop-i, row_after c.args.n c.loop-i.i c.loop-i.invariant.0),
+      omega (arith, c.requires.body.desks_most, c.requires.draws.received_most c.loop-i.i i<n, c.requires.tips.received_most c.loop-i.i i<n),
+      covered_next (λ k s. leb (debit _ (P (goal.at.loop-i-preserved c).After-word-drawn) s k) (credit _ (P (goal.at.loop-i-preserved c).After-word-drawn) s k)) c.loop-i.i {one = c.if-draw_credit-totals.covered} c.loop-i.invariant.2
           (rw (← draws, ← debit_at c.requires.draws c.loop-i.i i<n (drawn (goal.at.loop-i-preserved c).After-word-drawn))
-          (elim c.if-draw_credit-draw_given.branch [
-            | then-draw_credit-draw_given w ↦ cleared _ w.if-draw_credit-draw_given.true w.covered-is
-            | else-draw_credit-draw_given w ↦ kept w.if-draw_credit-draw_given.false w.covered-is
+          (elim c.if-draw_credit-totals.branch [
+            | then-draw_credit-totals w ↦ cleared _ w.if-draw_credit-totals.true w.covered-is
+            | else-draw_credit-totals w ↦ kept w.if-draw_credit-totals.false w.covered-is
           ]))
           (rw (← tips, ← debit_at c.requires.tips c.loop-i.i i<n (tipped (goal.at.loop-i-preserved c).After-word-drawn))
-          (elim c.if-tip_credit-tip_given.branch [
-            | then-tip_credit-tip_given w ↦ cleared _ w.if-tip_credit-tip_given.true w.covered-is
-            | else-tip_credit-tip_given w ↦ kept w.if-tip_credit-tip_given.false w.covered-is
+          (elim c.if-tip_credit-totals.branch [
+            | then-tip_credit-totals w ↦ cleared _ w.if-tip_credit-totals.true w.covered-is
+            | else-tip_credit-totals w ↦ kept w.if-tip_credit-totals.false w.covered-is
           ])),
-      rw (sum_next c.loop-i.i, ← draws, ← tips, ← c.loop-i.invariant.4) (omega arith),
+      rw (sum_next c.loop-i.i, ← draws, ← tips, ← c.loop-i.invariant.3) (omega arith),
     )
 
-pub returns : goal.returns
+pub returns-clause-covered : goal.returns-clause-covered
 unfolding lawful
-returns c =
+returns-clause-covered c =
     let done : c.loop-i.i ≡ c.args.n = omega arith in
-    record { covered = rw done at c.loop-i.invariant.3; credits = rw done at c.loop-i.invariant.4 }
+    rw done at c.loop-i.invariant.2

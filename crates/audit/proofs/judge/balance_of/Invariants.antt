@@ -1,6 +1,6 @@
 -- `balance_of` adds up the credits of one desk after the other, and clears its mark at each debit that is above. The totals and the row's two tallies make
 -- the credit and the debit of either side.
-use Prim.Native.Nat.{◌+◌, ◌-◌, ◌*◌, ◌≤◌}
+use Prim.Native.Nat.{◌+◌, ◌*◌, ◌≤◌}
 use mathlib.Core.Path.{◌≡◌}
 use Rattle.rules.specs.Loops.{sum, every}
 use Rattle.rules.specs.Pile.{draw, tip, credit}
@@ -12,8 +12,5 @@ use Rattle.audit.proofs.judge.balance_of.Given as goal
 abbrev pub invariant-loop-i : goal.invariant-loop-i
 invariant-loop-i l =
     let p = first_body l.n l.body in
-    (l.i ≤ l.n) × (l.row ≡ cell_at l.n (l.i + 1) 0) × (l.credits ≤ l.i * 200000000000) × (l.covered ≡ every l.i (covers l.n p))
+    (l.row ≡ cell_at l.n (l.i + 1) 0) × (l.credits ≤ l.i * 200000000000) × (l.covered ≡ every l.i (covers l.n p))
     × (l.credits ≡ sum l.i (λ k. credit l.n p draw k + credit l.n p tip k))
-
-abbrev pub decreases-loop-i : goal.decreases-loop-i
-decreases-loop-i l = l.n - l.i

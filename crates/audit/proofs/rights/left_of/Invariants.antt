@@ -1,5 +1,5 @@
 -- `left_of` adds up what a desk's rights are made of: what it had at first, and desk by desk what it got and what it gave.
-use Prim.Native.Nat.{◌+◌, ◌-◌, ◌*◌, ◌≤◌}
+use Prim.Native.Nat.{◌+◌, ◌*◌, ◌≤◌}
 use mathlib.Core.Path.{◌≡◌}
 use Rattle.rules.specs.Loops.{sum}
 use Rattle.rules.specs.Pile.{other, side_of}
@@ -10,8 +10,5 @@ abbrev pub invariant-loop-j : goal.invariant-loop-j
 invariant-loop-j l =
     let p = first_body l.n l.body in
     let s = side_of l.side in
-    (l.j ≤ l.n) × (l.credit ≤ (l.j + 2) * 4294967296) × (l.debit ≤ (l.j + 1) * 4294967296)
+    (l.credit ≤ (l.j + 2) * 4294967296) × (l.debit ≤ (l.j + 1) * 4294967296)
     × (l.credit ≡ p.share s l.i + p.earned s l.i + sum l.j (λ k. p.give s k l.i)) × (l.debit ≡ sum l.j (p.give s l.i) + p.earned (other s) l.i)
-
-abbrev pub decreases-loop-j : goal.decreases-loop-j
-decreases-loop-j l = l.n - l.j

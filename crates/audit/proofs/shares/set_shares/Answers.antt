@@ -22,29 +22,24 @@ share_is c =
 
 pub loop-j-init : goal.loop-j-init
 unfolding loops.sum
-loop-j-init c = (
-  search rules,
-  refl,
-  search rules,
-  record { long = c.requires.1; set_to = λ j l. absurd (not-suc-le-zero l); most = λ j l. absurd (not-suc-le-zero l) },
-)
+loop-j-init c = (refl, search rules, record { set_to = λ j l. absurd (not-suc-le-zero l); most = λ j l. absurd (not-suc-le-zero l) })
 
 pub cell-share-requires : goal.cell-share-requires
 cell-share-requires c =
-    places.on_column c.requires.0 (omega arith) (side_of c.args.side) c.loop-j-test.true c.side_column.ensures
+    places.on_column c.requires (omega arith) (side_of c.args.side) c.loop-j-test.true c.side_column.ensures
 
 pub loop-j-preserved : goal.loop-j-preserved
 loop-j-preserved c =
     let inv = c.loop-j.invariant in
     let a = c.args in
-    let inside : c.loop-j.j < length c.loop-j.totals = omega (arith, inv.3.long, c.requires.0.desks_most) in (
-      search rules,
-      ap₂ ◌+◌ inv.1 (share_is (goal.at.loop-j-preserved c).After-cell-share) ∙ sym (sum_next _ _),
+    let share = share_is (goal.at.loop-j-preserved c).After-cell-share in
+    let inside : c.loop-j.j < length c.loop-j.totals = omega (arith, c.requires.desks_most) in
+    rw c.from.ensures (
+      ap₂ ◌+◌ inv.0 share ∙ sym (sum_next _ _),
       omega (arith, c.cell-share.ensures.1),
       record {
-        long = search rules;
-        set_to = set_next (λ k x. x ≡ (first_body a.n a.body.now).share (side_of a.side) k) c.loop-j.totals c.loop-j.j _ inv.3.set_to inside (share_is (goal.at.loop-j-preserved c).After-cell-share);
-        most = set_next (λ k x. x ≤ 4294967296) c.loop-j.totals c.loop-j.j _ inv.3.most inside (omega (arith, c.cell-share.ensures.1));
+        set_to = set_next (λ k x. x ≡ (first_body a.n a.body.now).share (side_of a.side) k) c.loop-j.totals c.loop-j.j _ inv.2.set_to inside share;
+        most = set_next (λ k x. x ≤ 4294967296) c.loop-j.totals c.loop-j.j _ inv.2.most inside (omega (arith, c.cell-share.ensures.1));
       },
     )
 
@@ -52,4 +47,4 @@ pub returns : goal.returns
 returns c =
     let done : c.loop-j.j ≡ c.args.n = omega arith in
     let inv = rw done at c.loop-j.invariant in
-    record { sum = (inv.1, omega (arith, inv.2, c.requires.0.desks_most)); totals = inv.3 }
+    record { sum = (inv.0, omega (arith, inv.1, c.requires.desks_most)); totals = inv.2 }

@@ -1,5 +1,5 @@
 -- `set_shares` reads one share after the other, adds it to the sum and puts it in its place.
-use Prim.Native.Nat.{◌-◌, ◌*◌, ◌≤◌}
+use Prim.Native.Nat.{◌*◌, ◌≤◌}
 use mathlib.Core.Path.{◌≡◌}
 use Rattle.rules.specs.Loops as loops
 use Rattle.rules.specs.Pile.{side_of}
@@ -10,7 +10,4 @@ use Rattle.audit.proofs.shares.set_shares.Given as goal
 abbrev pub invariant-loop-j : goal.invariant-loop-j
 invariant-loop-j l =
     let share = (first_body l.n l.body).share (side_of l.side) in
-    (l.j ≤ l.n) × (l.sum ≡ loops.sum l.j share) × (l.sum ≤ l.j * 4294967296) × SharesSet l.j share l.totals
-
-abbrev pub decreases-loop-j : goal.decreases-loop-j
-decreases-loop-j l = l.n - l.j
+    (l.sum ≡ loops.sum l.j share) × (l.sum ≤ l.j * 4294967296) × SharesSet l.j share l.totals

@@ -25,51 +25,39 @@ number_is c =
     c.cell-x.ensures.0 ∙ ap (λ (k : ℕ). number 4 a.body.now (cell_at a.n a.row k)) c.side_column.ensures
 
 total_is : (at : At-loop-j) → get_or at.loop-j.totals at.loop-j.j 0 ≡ get_or at.args.totals.now at.loop-j.j 0
-total_is at = at.loop-j.invariant.4 at.loop-j.j (le_refl at.loop-j.j)
+total_is at = at.loop-j.invariant.3 at.loop-j.j (le_refl at.loop-j.j)
 
 pub loop-j-init : goal.loop-j-init
 unfolding loops.sum
-loop-j-init c = (
-  search rules,
-  refl,
-  search rules,
-  record { long = c.requires.long; added = λ j l. absurd (not-suc-le-zero l); most = λ j l. absurd (not-suc-le-zero l) },
-  λ k l. refl,
-)
+loop-j-init c = (refl, search rules, record { added = λ j l. absurd (not-suc-le-zero l); most = λ j l. absurd (not-suc-le-zero l) }, λ k l. refl)
 
 pub cell-x-requires : goal.cell-x-requires
 cell-x-requires c =
     on_column c.requires.body c.requires.row_most (side_of c.args.side) c.loop-j-test.true c.side_column.ensures
 
-pub bounds-totals-place : goal.bounds-totals-place
-bounds-totals-place c = search (rules, c.requires.body.desks_most)
-
 pub overflow_add-totals : goal.overflow_add-totals
 overflow_add-totals c =
-    omega (arith, total_is (goal.at.overflow_add-totals c).At-loop-j, c.requires.room c.loop-j.j c.loop-j-test.true, c.cell-x.ensures.1)
-
-pub bounds-totals-place-in-loop-j : goal.bounds-totals-place-in-loop-j
-bounds-totals-place-in-loop-j c = search (rules, c.requires.body.desks_most)
+    rw c.from.ensures (omega (arith, total_is (goal.at.overflow_add-totals c).At-loop-j, c.requires.room c.loop-j.j c.loop-j-test.true, c.cell-x.ensures.1))
 
 pub loop-j-preserved : goal.loop-j-preserved
 loop-j-preserved c =
     let a = c.args in
     let inv = c.loop-j.invariant in
-    let row = given a.body.now a.n a.row (side_of a.side) in (
-      search rules,
-      ap₂ ◌+◌ inv.1 (number_is (goal.at.loop-j-preserved c).After-cell-x) ∙ sym (sum_next _ _),
+    let row = given a.body.now a.n a.row (side_of a.side) in
+    let number = number_is (goal.at.loop-j-preserved c).After-cell-x in
+    rw c.from.ensures (
+      ap₂ ◌+◌ inv.0 number ∙ sym (sum_next _ _),
       omega (arith, c.cell-x.ensures.1),
       record {
-        long = search rules;
-        added = set_next (λ k x. x ≡ get_or a.totals.now k 0 + row k) c.loop-j.totals c.loop-j.j _ inv.3.added (omega (arith, inv.3.long, c.requires.body.desks_most))
-            (ap₂ ◌+◌ (total_is (goal.at.loop-j-preserved c).At-loop-j) (number_is (goal.at.loop-j-preserved c).After-cell-x));
-        most = λ k l. below_more _ _ inv.3.most (omega (arith, number_is (goal.at.loop-j-preserved c).After-cell-x, c.cell-x.ensures.1)) k l;
+        added = set_next (λ k x. x ≡ get_or a.totals.now k 0 + row k) c.loop-j.totals c.loop-j.j _ inv.2.added (omega (arith, c.requires.body.desks_most))
+            (ap₂ ◌+◌ (total_is (goal.at.loop-j-preserved c).At-loop-j) number);
+        most = λ k l. below_more _ _ inv.2.most (omega (arith, number, c.cell-x.ensures.1)) k l;
       },
-      λ k l. get_or-set_other c.loop-j.totals c.loop-j.j k _ 0 (λ e. omega arith) ∙ inv.4 k (omega arith),
+      λ k l. get_or-set_other c.loop-j.totals c.loop-j.j k _ 0 (λ e. omega arith) ∙ inv.3 k (omega arith),
     )
 
 pub returns : goal.returns
 returns c =
     let done : c.loop-j.j ≡ c.args.n = omega arith in
     let inv = rw done at c.loop-j.invariant in
-    record { sum = (inv.1, omega (arith, inv.2, c.requires.body.desks_most)); totals = inv.3 }
+    record { sum = (inv.0, omega (arith, inv.1, c.requires.body.desks_most)); totals = inv.2 }

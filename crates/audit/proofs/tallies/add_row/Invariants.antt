@@ -1,5 +1,5 @@
 -- `add_row` adds one number after the other, to the sum and to the total at its place.
-use Prim.Native.Nat.{ℕ, ◌-◌, ◌*◌, ◌≤◌}
+use Prim.Native.Nat.{ℕ, ◌*◌, ◌≤◌}
 use mathlib.Core.Path.{◌≡◌}
 use mathlib.Core.List.{List}
 use lib.ListN.{get_or}
@@ -16,8 +16,5 @@ given b n row s j = number 4 b (cell_at n row (column n s j))
 
 abbrev pub invariant-loop-j : goal.invariant-loop-j
 invariant-loop-j l =
-    (l.j ≤ l.n) × (l.sum ≡ loops.sum l.j (given l.body l.n l.row (side_of l.side))) × (l.sum ≤ l.j * 4294967296)
+    (l.sum ≡ loops.sum l.j (given l.body l.n l.row (side_of l.side))) × (l.sum ≤ l.j * 4294967296)
     × RowAdded l.j (given l.body l.n l.row (side_of l.side)) l.initial.totals l.totals × ((k : ℕ) → l.j ≤ k → get_or l.totals k 0 ≡ get_or l.initial.totals k 0)
-
-abbrev pub decreases-loop-j : goal.decreases-loop-j
-decreases-loop-j l = l.n - l.j

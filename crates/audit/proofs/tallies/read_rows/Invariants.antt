@@ -1,5 +1,5 @@
 -- `read_rows` adds up one row after the other, for both sides.
-use Prim.Native.Nat.{◌+◌, ◌-◌, ◌*◌, ◌≤◌}
+use Prim.Native.Nat.{◌+◌, ◌*◌, ◌≤◌}
 use mathlib.Core.Path.{◌≡◌}
 use Rattle.rules.specs.Loops.{sum}
 use Rattle.rules.specs.Pile.{draw, tip}
@@ -10,8 +10,5 @@ use Rattle.audit.proofs.tallies.read_rows.Given as goal
 abbrev pub invariant-loop-i : goal.invariant-loop-i
 invariant-loop-i l =
     let p = first_body l.n l.body in
-    (l.i ≤ l.n) × SideRead p draw l.n l.i l.draws l.draw_given × SideRead p tip l.n l.i l.tips l.tip_given
+    SideRead p draw l.n l.i l.totals.draw × SideRead p tip l.n l.i l.totals.tip
     × (l.own ≡ sum l.i (λ k. p.give draw k k + p.give tip k k)) × (l.own ≤ l.i * 8589934592)
-
-abbrev pub decreases-loop-i : goal.decreases-loop-i
-decreases-loop-i l = l.n - l.i

@@ -6,7 +6,6 @@ use Rattle.rules.specs.Loops.{every}
 use Rattle.rules.specs.Numbers.{number}
 use Rattle.rules.specs.Layout.{columns, cell_at}
 use Rattle.rules.proofs.Loops.Every.{every_next, every_stops}
-use borrow.Author.Rules.{rules}
 use Rattle.audit.proofs.tallies.row_within.Goals as goal
 use Rattle.audit.proofs.tallies.row_within.Goals.{After-cell}
 
@@ -17,7 +16,7 @@ number_is c = c.cell.ensures.0
 
 pub loop-c-init : goal.loop-c-init
 unfolding every
-loop-c-init c = (search rules, refl)
+loop-c-init c = refl
 
 pub cell-requires : goal.cell-requires
 cell-requires c =
@@ -27,14 +26,11 @@ pub returns-then-cell-gt-TALLY_LIMIT : goal.returns-then-cell-gt-TALLY_LIMIT
 returns-then-cell-gt-TALLY_LIMIT c =
     sym (every_stops _ _ c.loop-c.c (omega (arith, c.columns_of-all.ensures)) (lt-leb _ _ (rw (number_is (goal.at.returns-then-cell-gt-TALLY_LIMIT c).After-cell) at c.if-cell-gt-TALLY_LIMIT.true)))
 
-pub loop-c-smaller : goal.loop-c-smaller
-loop-c-smaller c = omega (arith, c.columns_of-all.ensures)
-
 pub loop-c-preserved : goal.loop-c-preserved
 loop-c-preserved c =
-    (omega (arith, c.columns_of-all.ensures), every_next _ _ c.loop-c.invariant.1 (le-leb _ _ (rw (number_is (goal.at.loop-c-preserved c).After-cell) at c.if-cell-gt-TALLY_LIMIT.false)))
+    every_next _ _ c.loop-c.invariant (le-leb _ _ (rw (number_is (goal.at.loop-c-preserved c).After-cell) at c.if-cell-gt-TALLY_LIMIT.false))
 
 pub returns : goal.returns
 returns c =
     let done : c.loop-c.c ≡ columns c.args.n = omega (arith, c.columns_of-all.ensures) in
-    sym (rw done at c.loop-c.invariant.1)
+    sym (rw done at c.loop-c.invariant)

@@ -1,5 +1,5 @@
 -- `row_within` looks at one number of the row after the other, and stops at the first that is above the limit.
-use Prim.Native.Nat.{ℕ, ◌-◌, ◌≤◌}
+use Prim.Native.Nat.{ℕ}
 use mathlib.Core.Path.{◌≡◌}
 use mathlib.Core.Bool.{Bool, true}
 use mathlib.Core.List.{List}
@@ -7,14 +7,11 @@ use lib.Dec.{leb}
 use Rattle.rules.specs.Loops.{every}
 use Rattle.rules.specs.Numbers.{number}
 use Rattle.rules.specs.Pile.{tally_limit}
-use Rattle.rules.specs.Layout.{columns, cell_at}
+use Rattle.rules.specs.Layout.{cell_at}
 use Rattle.audit.proofs.tallies.row_within.Given as goal
 
 abbrev pub small : List ℕ → ℕ → ℕ → ℕ → Bool
 small b n row c = leb (number 4 b (cell_at n row c)) tally_limit
 
 abbrev pub invariant-loop-c : goal.invariant-loop-c
-invariant-loop-c l = (l.c ≤ columns l.n) × (every l.c (small l.body l.n l.row) ≡ true)
-
-abbrev pub decreases-loop-c : goal.decreases-loop-c
-decreases-loop-c l = columns l.n - l.c
+invariant-loop-c l = (every l.c (small l.body l.n l.row) ≡ true)

@@ -19,7 +19,7 @@ row_is c =
 
 pub loop-i-init : goal.loop-i-init
 unfolding every
-loop-i-init c = (search rules, refl)
+loop-i-init c = refl
 
 pub row_within-requires : goal.row_within-requires
 row_within-requires c = (c.requires, search rules)
@@ -30,9 +30,9 @@ returns-then-not-row_within c =
 
 pub loop-i-preserved : goal.loop-i-preserved
 loop-i-preserved c =
-    (search rules, every_next _ _ c.loop-i.invariant.1 (sym (row_is (goal.at.loop-i-preserved c).After-row_within) ∙ c.if-not-row_within.false))
+    every_next _ _ c.loop-i.invariant (sym (row_is (goal.at.loop-i-preserved c).After-row_within) ∙ c.if-not-row_within.false)
 
 pub returns : goal.returns
 returns c =
     let done : c.loop-i.i ≡ c.args.n = omega arith in
-    sym (rw done at c.loop-i.invariant.1)
+    sym (rw done at c.loop-i.invariant)

@@ -1,5 +1,5 @@
 -- `rows_within` asks one row after the other, and stops at the first that has a number above the limit.
-use Prim.Native.Nat.{ℕ, suc, ◌-◌, ◌≤◌}
+use Prim.Native.Nat.{ℕ, suc}
 use mathlib.Core.Path.{◌≡◌}
 use mathlib.Core.Bool.{Bool, true}
 use mathlib.Core.List.{List}
@@ -14,7 +14,4 @@ abbrev pub small : List ℕ → ℕ → ℕ → Bool
 small b n row = every (columns n) (λ c. leb (number 4 b (cell_at n row c)) tally_limit)
 
 abbrev pub invariant-loop-i : goal.invariant-loop-i
-invariant-loop-i l = (l.i ≤ l.n) × (every l.i (λ k. small l.body l.n (suc k)) ≡ true)
-
-abbrev pub decreases-loop-i : goal.decreases-loop-i
-decreases-loop-i l = l.n - l.i
+invariant-loop-i l = (every l.i (λ k. small l.body l.n (suc k)) ≡ true)

@@ -46,7 +46,7 @@ position_at_lem c =
 
 pub loop-k-init : goal.loop-k-init
 unfolding every
-loop-k-init c = (none_risen, refl, omega arith)
+loop-k-init c = record { rising = none_risen; placed = refl; next = omega arith }
 
 pub overflow_add-entry : goal.overflow_add-entry
 overflow_add-entry c = search (rules, within (goal.at.overflow_add-entry c).After-entry_at-at)
@@ -57,19 +57,19 @@ slice_bounds-entry-end c = search (rules, within (goal.at.slice_bounds-entry-end
 pub returns-then-number-last : goal.returns-then-number-last
 unfolding contents_sound
 returns-then-number-last c =
-    sym (and_left_fails (not_risen c.loop-k.invariant.0 c.loop-k-test.true (number_is (goal.at.returns-then-number-last c).After-entry_number-number) (inl c.if-number-last.true)) _)
+    sym (and_left_fails (not_risen c.loop-k.invariant.rising c.loop-k-test.true (number_is (goal.at.returns-then-number-last c).After-entry_number-number) (inl c.if-number-last.true)) _)
 
 pub returns-then-entry_position-expected : goal.returns-then-entry_position-expected
 unfolding contents_sound
 returns-then-entry_position-expected c =
     sym (and_right_fails _ (every_stops _ _ c.loop-k.k (search rules)
-    (ne_eqb _ _ (λ e. c.if-entry_position-expected.true (position_at_lem (goal.at.returns-then-entry_position-expected c).After-entry_position ∙ e ∙ sym (c.loop-k.invariant.2 ∙ expects (goal.at.returns-then-entry_position-expected c).At-loop-k c.loop-k.k))))))
+    (ne_eqb _ _ (λ e. c.if-entry_position-expected.true (position_at_lem (goal.at.returns-then-entry_position-expected c).After-entry_position ∙ e ∙ sym (c.loop-k.invariant.next ∙ expects (goal.at.returns-then-entry_position-expected c).At-loop-k c.loop-k.k))))))
 
 pub overflow_add-expected : goal.overflow_add-expected
 overflow_add-expected c =
     omega (
       arith,
-      c.loop-k.invariant.2,
+      c.loop-k.invariant.next,
       expects (goal.at.overflow_add-expected c).At-loop-k c.loop-k.k,
       position_is (as_head c.args.head) c.loop-k.k c.requires.sizes.desks_least c.requires.sizes.desks_most,
       position_most (as_head c.args.head) c.loop-k.k (omega arith) (omega arith),
@@ -79,15 +79,17 @@ overflow_add-expected c =
 
 pub loop-k-preserved : goal.loop-k-preserved
 loop-k-preserved c =
-    let inv = c.loop-k.invariant in (
-      next_risen inv.0 c.loop-k-test.true (number_is (goal.at.loop-k-preserved c).After-entry_number-number) c.if-number-last.false (omega (arith, c.entry_number-number.type_inv)),
-      every_next _ _ inv.1 (eq-eqb _ _ (sym (position_at_lem (goal.at.loop-k-preserved c).After-entry_position) ∙ c.if-entry_position-expected.false ∙ inv.2)),
-      omega arith,
-    )
+    let inv = c.loop-k.invariant in
+    record {
+      rising = next_risen inv.rising c.loop-k-test.true (number_is (goal.at.loop-k-preserved c).After-entry_number-number) c.if-number-last.false (omega (arith, c.entry_number-number.type_inv));
+      placed =
+          every_next _ _ inv.placed (eq-eqb _ _ (sym (position_at_lem (goal.at.loop-k-preserved c).After-entry_position) ∙ c.if-entry_position-expected.false ∙ inv.next));
+      next = omega arith;
+    }
 
 pub returns : goal.returns
 unfolding contents_sound
 returns c =
     let done : c.loop-k.k ≡ c.args.head.piles = omega arith in
-    sym (and_both (all_risen c.loop-k.invariant.0 (omega arith))
-    (rw (done, every_cong c.args.head.piles (λ j _. ap (eqb (position _ j)) (expects (goal.at.returns c).At-loop-k j))) at c.loop-k.invariant.1))
+    sym (and_both (all_risen c.loop-k.invariant.rising (omega arith))
+    (rw (done, every_cong c.args.head.piles (λ j _. ap (eqb (position _ j)) (expects (goal.at.returns c).At-loop-k j))) at c.loop-k.invariant.placed))

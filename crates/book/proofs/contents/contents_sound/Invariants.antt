@@ -1,5 +1,5 @@
 -- `contents_sound` tests one entry after the other, its number against the one before it and its position against where the body before it ends, and stops at the first that is wrong.
-use Prim.Native.Nat.{◌+◌, ◌-◌, ◌*◌}
+use Prim.Native.Nat.{◌+◌, ◌*◌}
 use mathlib.Core.Path.{◌≡◌}
 use mathlib.Core.Bool.{true}
 use lib.Dec.{eqb}
@@ -10,7 +10,8 @@ use Rattle.book.proofs.contents.contents_sound.Given as goal
 
 abbrev pub invariant-loop-k : goal.invariant-loop-k
 invariant-loop-k l =
-    Risen l.p (pile_number l.book) l.k l.last × (every l.k (λ j. eqb (position l.book j) (l.initial.expected + j * l.size)) ≡ true) × (l.expected ≡ l.initial.expected + l.k * l.size)
-
-abbrev pub decreases-loop-k : goal.decreases-loop-k
-decreases-loop-k l = l.p - l.k
+    record {
+      rising : Risen l.fn.head.piles (pile_number l.book) l.k l.last;
+      placed : every l.k (λ j. eqb (position l.book j) (l.initial.expected + j * l.size)) ≡ true;
+      next : l.expected ≡ l.initial.expected + l.k * l.size;
+    }

@@ -14,8 +14,7 @@ use Rattle.book.proofs.contents.place_of.Goals.{After-entry_at-at, After-entry_n
 
 -- the entry lies within the book
 within : (c : After-entry_at-at) → c.entry_at-at.result + 6 ≤ length c.args.book.now
-within c =
-    omega (arith, c.entry_at-at.ensures, c.requires.within c.loop-k.k c.loop-k-test.true)
+within c = omega (arith, c.entry_at-at.ensures, c.requires.within c.loop-k.k c.loop-k-test.true)
 
 -- the number of the entry
 number_is : (c : After-entry_number) → c.entry_number.result ≡ pile_number c.args.book.now c.loop-k.k
@@ -25,7 +24,7 @@ number_is c =
 
 pub loop-k-init : goal.loop-k-init
 unfolding index
-loop-k-init c = (search rules, refl)
+loop-k-init c = refl
 
 pub overflow_add-at : goal.overflow_add-at
 overflow_add-at c = search (rules, within (goal.at.overflow_add-at c).After-entry_at-at)
@@ -33,15 +32,11 @@ overflow_add-at c = search (rules, within (goal.at.overflow_add-at c).After-entr
 pub slice_bounds-entry_number-end : goal.slice_bounds-entry_number-end
 slice_bounds-entry_number-end c = search (rules, within (goal.at.slice_bounds-entry_number-end c).After-entry_at-at)
 
-pub returns-then-entry_number-number : goal.returns-then-entry_number-number
-returns-then-entry_number-number c =
-    sym (index_stops _ _ c.loop-k.k (search rules) c.loop-k.invariant.1 (eq-eqb _ _ (sym (number_is (goal.at.returns-then-entry_number-number c).After-entry_number) ∙ c.if-entry_number-number.true)))
+pub returns-then-entry_number-number-clause-found : goal.returns-then-entry_number-number-clause-found
+returns-then-entry_number-number-clause-found c =
+    let number = number_is (goal.at.returns-then-entry_number-number-clause-found c).After-entry_number in
+    (c.loop-k-test.true, sym (index_stops _ _ c.loop-k.k c.loop-k-test.true c.loop-k.invariant (eq-eqb _ _ (sym number ∙ c.if-entry_number-number.true))))
 
 pub loop-k-preserved : goal.loop-k-preserved
 loop-k-preserved c =
-    (search rules, index_next _ _ c.loop-k.invariant.1 (ne_eqb _ _ (λ e. c.if-entry_number-number.false (number_is (goal.at.loop-k-preserved c).After-entry_number ∙ e))))
-
-pub returns : goal.returns
-returns c =
-    let done : c.loop-k.k ≡ c.args.p = omega arith in
-    sym (rw done at c.loop-k.invariant.1)
+    index_next _ _ c.loop-k.invariant (ne_eqb _ _ (λ e. c.if-entry_number-number.false (number_is (goal.at.loop-k-preserved c).After-entry_number ∙ e)))

@@ -1,6 +1,6 @@
 -- `bodies_answer` has the bodies checked where they stand, behind the front.
 use Prim.Native.Nat.{ℕ}
-use mathlib.Core.Path.{ap, ◌∙◌, sym}
+use mathlib.Core.Path.{ap, ap₂, ◌∙◌, sym}
 use lib.ListN.{length}
 use Rattle.rules.specs.Pile.{pile_answer}
 use Rattle.rules.specs.Layout.{front_length, body_view}
@@ -17,6 +17,6 @@ returns c =
     let a = c.args in
     let h = as_head a.head in
     let sizes = c.requires.sizes in
-    c.check_bodies.ensures ∙ ap (λ (from : ℕ). bodies_answer a.head.desks a.head.piles from a.book.now) c.front_length.ensures
+    c.check_bodies.ensures ∙ ap₂ (λ (p from : ℕ). bodies_answer a.head.desks p from a.book.now) c.from.ensures c.front_length.ensures
     ∙ or_else_passes (sym (shape_fits a.head.desks a.head.piles (front_length h) (length a.book.now) (sizes.desks_least, sizes.desks_most) sizes.piles_most (c.requires.sized ∙ book_end h))) _
     ∙ first_cong a.head.piles (λ k _. ap (λ (from : ℕ). pile_answer a.head.desks (body_view a.head.desks a.book.now from)) (sym (body_start_lem h k)))

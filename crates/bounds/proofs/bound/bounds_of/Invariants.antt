@@ -1,5 +1,4 @@
 -- `bounds_of` stores one desk's bound after the other.
-use Prim.Native.Nat.{◌-◌, ◌≤◌}
 use mathlib.Core.Path.{◌≡◌}
 use lib.ListN.{get_or}
 use Rattle.rules.specs.Loops.{list}
@@ -10,8 +9,4 @@ use Rattle.bounds.specs.Inner.{kept}
 use Rattle.bounds.proofs.bound.bounds_of.Given as goal
 
 abbrev pub invariant-loop-i : goal.invariant-loop-i
-invariant-loop-i l =
-    (l.i ≤ l.n) × (l.bounds ≡ list desk_limit (padded l.i (λ k. kept (side_of l.side) l.floor l.top (get_or l.rights k 0))))
-
-abbrev pub decreases-loop-i : goal.decreases-loop-i
-decreases-loop-i l = l.n - l.i
+invariant-loop-i l = l.bounds ≡ list desk_limit (padded l.i (λ k. kept (side_of l.side) l.floor l.top (get_or l.rights k 0)))

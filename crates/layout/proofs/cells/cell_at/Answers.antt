@@ -1,17 +1,16 @@
 -- `cell_at` adds up the rows and the columns before the number.
-use Prim.Native.Nat.{ℕ, ◌*◌, ◌≤◌}
+use Prim.Native.Nat.{◌*◌, ◌≤◌}
 use native.Mathlib.Nat.{mul-le-mul}
 use native.Mathlib.Omega.{arith}
-use mathlib.Core.Path.{ap}
 use Rattle.rules.specs.Layout.{row_length, cell_at}
 use Rattle.layout.proofs.cells.cell_at.Goals as goal
 use Rattle.layout.proofs.cells.cell_at.Goals.{After-row_length}
 
 -- the rows before it are short, since there are few desks
-rows_most : (c : After-row_length) → c.args.row * c.row_length.result ≤ 255 * 2048
+rows_most : (c : After-row_length) → c.from.result * c.row_length.result ≤ 255 * 2048
 unfolding row_length
 rows_most c =
-    let rows : c.args.row ≤ 255 = omega arith in
+    let rows : c.from.result ≤ 255 = omega arith in
     let row : c.row_length.result ≤ 2048 = omega (arith, c.row_length.ensures) in
     mul-le-mul rows row
 
@@ -23,4 +22,4 @@ overflow_add-result c = omega (arith, rows_most (goal.at.overflow_add-result c).
 
 pub returns : goal.returns
 unfolding cell_at
-returns c = omega (arith, ap (λ (x : ℕ). c.args.row * x) c.row_length.ensures)
+returns c = rw (c.from.ensures, c.row_length.ensures, c.from-2.ensures) (omega arith)

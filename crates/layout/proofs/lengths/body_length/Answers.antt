@@ -1,5 +1,6 @@
 -- `body_length` reads a table whose entries are document 01's lengths: one test says so of all eight, and antt computes it on the code's own table.
 use Rattle.std.proofs.Common.{ℕ, ◌+◌, ◌-◌, ◌≤◌, ◌<◌, List, get_or, ◌≡◌, ap, sym, ◌∙◌, true, inl, inr, arith, rules}
+use mathlib.Core.Logic.{⊎_elim}
 use lib.Dec.{eqb}
 use borrow.Author.Tests.{eqb-true}
 use Rattle.rules.specs.Loops.{◌and◌, every}
@@ -16,14 +17,13 @@ entry_right table n right least most =
     let counted : n - 1 + 1 ≡ n = omega arith in
     eqb-true _ _ (every_at desk_limit _ right (n - 1) below) ∙ ap body_length counted
 
-pub returns-then-n-lt1 : goal.returns-then-n-lt1
-returns-then-n-lt1 c = sym (size_out_of_range _ (inl c.if-n-lt1.true))
-
-pub returns-then-n-gt-DESKS : goal.returns-then-n-gt-DESKS
-returns-then-n-gt-DESKS c = sym (size_out_of_range _ (inr c.if-n-gt-DESKS.true))
+pub returns-then-desks-lt1 : goal.returns-then-desks-lt1
+returns-then-desks-lt1 c =
+    sym (size_out_of_range _ (⊎_elim (λ few. inl (omega (arith, few))) (λ many. inr (omega (arith, many.1))) c.then-desks-lt1.either))
 
 pub returns : goal.returns
 unfolding body_length every ◌and◌
 returns c =
-    let some : 1 ≤ c.args.n = omega (arith, c.if-n-lt1.false) in
-    rw (size_in_range c.args.n some c.if-n-gt-DESKS.false) (search (rules, entry_right))
+    let least : 1 ≤ c.args.n = omega arith in
+    let most : c.args.n ≤ desk_limit = omega arith in
+    rw (size_in_range c.args.n least most) (c.from.ensures ∙ rw c.from-desks.ensures (search (rules, entry_right)))

@@ -1,14 +1,11 @@
 -- `is_row_length` asks for a multiple of 8 from 16 to 72, and these are the eight lengths.
-use Prim.Native.Nat.{ℕ, suc, ◌+◌, ◌-◌, ◌*◌, ◌/◌, ◌%◌, ◌≤◌}
-use native.Mathlib.Nat.{not-le_of_lt}
-use native.Mathlib.Omega.{arith}
-use mathlib.Core.Path.{◌≡◌}
-use mathlib.Core.Bool.{true, false≢true}
-use borrow.Author.Tests.{leb-true, le-leb, eqb-true, eq-eqb, not-true, not-false}
-use Rattle.rules.specs.Loops.{some}
+use Rattle.std.proofs.Common.{ℕ, suc, ◌+◌, ◌-◌, ◌*◌, ◌/◌, ◌%◌, ◌≤◌, ◌≡◌, true, arith}
+use Rattle.std.proofs.lemmas.Grind.{common_steps}
+use borrow.Author.Tests.{le-leb, eqb-true, eq-eqb, not-true, not-false}
+use Rattle.rules.specs.Loops.{between, ◌and◌, some}
 use Rattle.rules.specs.Layout.{row_length}
 use Rattle.rules.specs.Rows.{is_row_length}
-use Rattle.rules.proofs.Loops.Logic.{same}
+use Rattle.rules.proofs.Loops.Logic.{same, and_both, in_range}
 use Rattle.rules.proofs.Loops.Every.{every_fails, some_at}
 use Rattle.layout.proofs.lengths.is_row_length.Goals as goal
 
@@ -25,12 +22,16 @@ to_length : (ℓ : ℕ) → ℓ % 8 ≡ 0 → 16 ≤ ℓ → ℓ ≤ 72 → is_r
 unfolding is_row_length row_length
 to_length ℓ whole least most = some_at 8 _ (ℓ / 8 - 2) (omega arith) (eq-eqb ℓ (8 * (suc (ℓ / 8 - 2) + 1)) (omega arith))
 
-pub returns-then-len-ne0 : goal.returns-then-len-ne0
-returns-then-len-ne0 c = same _ _ (λ e. absurd (false≢true e)) (λ e. absurd (c.if-len-ne0.true (of_length _ e).0))
+whole_lengths : (ℓ : ℕ) → ℓ % 8 ≡ 0 → is_row_length ℓ ≡ between 16 72 ℓ
+unfolding between
+whole_lengths ℓ whole =
+    same _ _ (λ e. let is = of_length ℓ e in and_both (le-leb _ _ is.1) (le-leb _ _ is.2))
+    (λ e. let within = in_range 16 72 ℓ e in to_length ℓ whole within.0 within.1)
 
-pub returns-then-len-ge16 : goal.returns-then-len-ge16
-returns-then-len-ge16 c =
-    same _ _ (λ e. to_length _ c.if-len-ne0.false c.if-len-ge16.true (leb-true _ _ e)) (λ e. le-leb _ _ (of_length _ e).2)
+pub returns-then-len-eq0 : goal.returns-then-len-eq0
+unfolding between ◌and◌
+returns-then-len-eq0 c = rw (whole_lengths _ c.if-len-eq0.true) (grind (arith, common_steps))
 
-pub returns-else-len-ge16 : goal.returns-else-len-ge16
-returns-else-len-ge16 c = same _ _ (λ e. absurd (not-le_of_lt c.if-len-ge16.false (leb-true _ _ e))) (λ e. le-leb _ _ (of_length _ e).1)
+pub returns-else-len-eq0 : goal.returns-else-len-eq0
+returns-else-len-eq0 c =
+    same _ _ (λ e. absurd (c.if-len-eq0.false (eqb-true _ _ e))) (λ e. absurd (c.if-len-eq0.false (of_length _ e).0))

@@ -1,43 +1,41 @@
--- `contents` stores line k of the book's contents as entry k, for each k below the number of entries filled, and leaves the rest of the list as it was.
-use Rattle.std.proofs.Common.{◌≡◌, ℕ, List, length, ap, sym, ◌∙◌, arith}
-use Rattle.std.proofs.Math.Logic.{by_cases}
-use Rattle.std.proofs.Math.Decide.{ℕ_discrete}
-use Rattle.rules.specs.Refusals.{done}
-use Rattle.rules.specs.Book.{contents_answer}
-use Rattle.rules.proofs.Loops.Refusals.{or_else_first, when_refused}
+-- `contents` asks the lines of the table in their order, and stores line k of the book's contents as entry k, for each k below the number of piles.
+use Rattle.std.proofs.Common.{◌≡◌, length, ap, sym, ◌∙◌, arith}
+use Rattle.rules.specs.Layout.{Head, piles}
 use Rattle.rules.proofs.Loops.Partly.{partly_none, partly_next}
-use Rattle.rules.proofs.File.Contents.{entries_filled, filled_within, contents_filled}
-use Rattle.layout.specs.Positions.{head_in}
-use Rattle.lent.specs.Entries.{entry_of}
-use Rattle.lent.proofs.Lines.{piles_read}
+use Rattle.rules.proofs.File.Contents.{contents_own, contents_8, contents_0}
+use Rattle.refusal.specs.declared.Refusal.TheVariants.{BufferShort}
+use Rattle.refusal.proofs.Refused.{number_is_not_0, handed_on}
+use Rattle.lent.proofs.Lines.{none_filled, all_filled, piles_read}
 use Rattle.lent.proofs.entries.contents.Goals as goal
-use Rattle.lent.proofs.entries.contents.Goals.{After-entries_filled-filled}
+use Rattle.lent.proofs.entries.contents.Goals.{After-head_of-piles}
 
--- as many entries are filled as the head says piles: a book that is not refused has its head
-filled_is : (b : List ℕ) (room : ℕ) → done (contents_answer b room) (head_in b).piles 0 ≡ entries_filled b room
-unfolding contents_answer
-filled_is b room =
-    by_cases (ℕ_discrete (contents_answer b room) 0)
-    (λ z. ap (λ p. done (contents_answer b room) p 0) (piles_read b (or_else_first _ _ z)))
-    (λ d. when_refused _ _ _ d ∙ sym (when_refused _ _ _ d))
+read : (c : After-head_of-piles) → c.head_of-piles.result.piles ≡ piles c.args.book.now
+read c = ap (λ (h : Head). h.piles) c.head_of-piles.ensures ∙ piles_read _ (sym c.in_ok-check.ensures)
 
-filled_are : (c : After-entries_filled-filled) → c.entries_filled-filled.result ≡ entries_filled c.args.book.now (length c.args.entries.now)
-filled_are c = c.entries_filled-filled.ensures ∙ rw c.contents_answer-answer.ensures (filled_is _ _)
+pub returns-in_err-check : goal.returns-in_err-check
+returns-in_err-check c =
+    let refusal = c.in_err-check.field-0.0 in
+    let e = contents_own _ (length c.args.entries.now) c.in_err-check.ensures (number_is_not_0 refusal) in
+    record { answer = handed_on c.from_residual.result refusal c.from_residual.ensures.1 ∙ e; entries = none_filled refusal _ _ e }
+
+pub returns-then-entries-from : goal.returns-then-entries-from
+returns-then-entries-from c =
+    let short = rw (c.from.ensures, read (goal.at.returns-then-entries-from c).After-head_of-piles) at c.if-entries-from.true in
+    let e = contents_8 _ _ (sym c.in_ok-check.ensures) short in
+    record { answer = e; entries = none_filled BufferShort _ _ e }
 
 pub loop-k-init : goal.loop-k-init
-loop-k-init c =
-    let fits = rw (← filled_are c) at (filled_within c.args.book.now (length c.args.entries.now)) in
-    record { counted = omega arith; room = fits.0; few = fits.1; filled_so_far = sym (partly_none _ _) }
+loop-k-init c = record { room = omega (arith, c.from.ensures); filled_so_far = sym (partly_none _ _) }
 
 pub loop-k-preserved : goal.loop-k-preserved
 loop-k-preserved c = record {
-  counted = omega arith;
   room = omega arith;
-  few = omega arith;
-  filled_so_far = rw (c.entry_at.ensures, c.loop-k.invariant.filled_so_far) (partly_next _ _ _ (omega arith));
+  filled_so_far = rw (c.pile_number.ensures, c.position.ensures, c.from-in-loop-k.ensures, c.loop-k.invariant.filled_so_far) (partly_next _ _ _ (omega arith));
 }
 
-pub returns-clause-entries : goal.returns-clause-entries
-returns-clause-entries c =
-    let all : c.loop-k.k ≡ c.entries_filled-filled.result = omega arith in
-    c.loop-k.invariant.filled_so_far ∙ rw (all, filled_are (goal.at.returns-clause-entries c).After-entries_filled-filled) (contents_filled entry_of _ _)
+pub returns : goal.returns
+returns c =
+    let is = read (goal.at.returns c).After-head_of-piles in
+    let e = contents_0 _ (length c.args.entries.now) (sym c.in_ok-check.ensures) (rw is at c.loop-k.invariant.room) in
+    let all : c.loop-k.k ≡ piles c.args.book.now = omega (arith, is) in
+    record { answer = e; entries = c.loop-k.invariant.filled_so_far ∙ rw all (all_filled _ _ e) }

@@ -1,5 +1,4 @@
 -- `put_bodies` writes one given pile after the other, each where the one before it ends.
-use Prim.Native.Nat.{◌-◌}
 use mathlib.Core.Path.{◌≡◌}
 use Rattle.rules.specs.Layout.{head_for, front_length, body_at}
 use Rattle.rules.proofs.Loops.Writing.{Written}
@@ -9,6 +8,3 @@ use Rattle.opening.proofs.front.put_bodies.Given as goal
 abbrev pub invariant-loop-k : goal.invariant-loop-k
 invariant-loop-k l =
     (l.at ≡ body_at (head_for l.n l.p) l.k) × Written l.initial.out (front_length (head_for l.n l.p)) l.p (body l.n l.numbers) l.k l.out
-
-abbrev pub decreases-loop-k : goal.decreases-loop-k
-decreases-loop-k l = l.p - l.k

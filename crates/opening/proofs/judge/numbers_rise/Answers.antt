@@ -4,16 +4,19 @@ use mathlib.Core.Logic.{inl, inr}
 use Rattle.rules.proofs.File.Risen.{none_risen, next_risen, not_risen}
 use Rattle.opening.proofs.GivenList.{given_number}
 use Rattle.opening.proofs.judge.numbers_rise.Goals as goal
+use Rattle.opening.proofs.judge.numbers_rise.Goals.{then-number-last-via-then-number-last, then-number-last-via-else-number-last+then-number-gt-LAST_NUMBER}
 
 pub loop-k-init : goal.loop-k-init
 loop-k-init c = none_risen
 
 pub returns-then-number-last : goal.returns-then-number-last
-returns-then-number-last c = sym (not_risen c.loop-k.invariant c.loop-k-test.true (given_number _ _ c.given_length-length.ensures _) (inl c.if-number-last.true))
-
-pub returns-then-number-gt-LAST_NUMBER : goal.returns-then-number-gt-LAST_NUMBER
-returns-then-number-gt-LAST_NUMBER c = sym (not_risen c.loop-k.invariant c.loop-k-test.true (given_number _ _ c.given_length-length.ensures _) (inr c.if-number-gt-LAST_NUMBER.true))
+returns-then-number-last c =
+    let wrong = not_risen c.loop-k.invariant c.loop-k-test.true (given_number _ _ c.given_place.ensures _) in
+    elim c.then-number-last.branch [
+      | then-number-last-via-then-number-last w ↦ sym (wrong (inl w.if-number-last.true))
+      | then-number-last-via-else-number-last+then-number-gt-LAST_NUMBER w ↦ sym (wrong (inr w.if-number-gt-LAST_NUMBER.true))
+    ]
 
 pub loop-k-preserved : goal.loop-k-preserved
 loop-k-preserved c =
-    next_risen c.loop-k.invariant c.loop-k-test.true (given_number _ _ c.given_length-length.ensures _) c.if-number-last.false c.if-number-gt-LAST_NUMBER.false
+    next_risen c.loop-k.invariant c.loop-k-test.true (given_number _ _ c.given_place.ensures _) c.if-number-last.false c.if-number-gt-LAST_NUMBER.false

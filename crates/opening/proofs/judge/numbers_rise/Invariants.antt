@@ -1,11 +1,7 @@
 -- `numbers_rise` tests one number after the other against the one before it and the highest, and stops at the first that is wrong.
-use Prim.Native.Nat.{◌-◌}
 use Rattle.rules.specs.Opening.{given}
 use Rattle.rules.proofs.File.Risen.{Risen}
 use Rattle.opening.proofs.judge.numbers_rise.Given as goal
 
 abbrev pub invariant-loop-k : goal.invariant-loop-k
 invariant-loop-k l = Risen l.p (λ j. given l.n l.numbers j 0) l.k l.last
-
-abbrev pub decreases-loop-k : goal.decreases-loop-k
-decreases-loop-k l = l.p - l.k

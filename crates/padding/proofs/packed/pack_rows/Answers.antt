@@ -1,56 +1,40 @@
 -- `pack_rows` writes each row in two runs, one row behind the other.
-use Prim.Native.Nat.{◌+◌, ◌*◌, ◌≤◌}
+use Prim.Native.Nat.{suc, ◌+◌}
 use native.Mathlib.Omega.{arith}
-use mathlib.Core.Path.{◌≡◌}
-use lib.ListN.{length}
-use Rattle.rules.specs.Layout.{row_length}
-use Rattle.rules.proofs.File.Body.{row_within}
-use Rattle.rules.proofs.Loops.Writing.{none_written, next_written, all_written}
-use Rattle.padding.proofs.PackedRows.{length_packed_row, pack_runs}
-use Rattle.padding.proofs.Halves.{front_is, tips_at, size_is, row_behind}
 use borrow.Author.Rules.{rules}
+use Rattle.rules.specs.Numbers.{encode}
+use Rattle.rules.proofs.Loops.Writing.{Written, none_written, all_written}
+use Rattle.padding.specs.Inner.{packed_row}
+use Rattle.padding.proofs.PackedRows.{next_packed}
+use Rattle.padding.proofs.Halves.{front_is, front_within, tips_within}
 use Rattle.padding.proofs.packed.pack_rows.Goals as goal
-use Rattle.padding.proofs.packed.pack_rows.Goals.{At-loop-r, In-loop-r}
+use Rattle.padding.proofs.packed.pack_rows.Goals.{After-pack_run-in-loop-r}
 
--- the numbers that the loop goes by
-module _ (c : At-loop-r) where
-  front_size : c.side_column-front.result ≡ 2 + c.args.n
-  front_size = front_is c.args.n c.side_column-front.ensures
-
-  tips_place_lem : c.cell_at-tips.result ≡ 8 + 4 * c.args.n
-  tips_place_lem = tips_at c.args.n c.side_column-front.ensures c.cell_at-tips.ensures
-
-  row_size : c.row_length-size.result ≡ 8 * (c.args.n + 1)
-  row_size = size_is c.args.n c.row_length-size.ensures
-
--- the row of this turn has its place
-room : (c : In-loop-r) → let a = c.args in c.loop-r.to + 8 * (a.n + 1) ≤ length a.bytes.now
-unfolding row_length
-room c =
-    omega (arith, c.loop-r.invariant.0, row_within c.args.n c.loop-r.r (omega arith), c.requires.within)
+written : (c : After-pack_run-in-loop-r)
+    → let a = c.args in Written a.bytes.now a.at (suc a.n) (λ r. encode (packed_row a.n a.numbers.now r)) (c.loop-r.r + 1) c.pack_run-in-loop-r.new.bytes
+written c =
+    next_packed c.args.n c.args.numbers.now c.loop-r.invariant (omega arith) c.side_column-front.ensures c.cell_at.ensures c.cell_at-in-loop-r.ensures
+    c.from.ensures c.from-in-loop-r.ensures c.from-in-loop-r-2.ensures c.pack_run.ensures c.pack_run-in-loop-r.ensures
 
 pub loop-r-init : goal.loop-r-init
-loop-r-init c = (omega arith, none_written)
+loop-r-init c = none_written
+
+pub overflow_add-at : goal.overflow_add-at
+overflow_add-at c = search (rules, front_within c.args.n c.loop-r.r (omega arith) c.side_column-front.ensures c.cell_at.ensures)
 
 pub pack_run-requires : goal.pack_run-requires
-pack_run-requires c = search (rules, room (goal.at.pack_run-requires c).In-loop-r, front_size (goal.at.pack_run-requires c).At-loop-r)
+pack_run-requires c =
+    search (rules, front_within c.args.n c.loop-r.r (omega arith) c.side_column-front.ensures c.cell_at.ensures, front_is c.args.n c.side_column-front.ensures)
 
-pub overflow_add-to : goal.overflow_add-to
-overflow_add-to c = search (rules, room (goal.at.overflow_add-to c).In-loop-r, tips_place_lem (goal.at.overflow_add-to c).At-loop-r)
+pub overflow_add-at-in-loop-r : goal.overflow_add-at-in-loop-r
+overflow_add-at-in-loop-r c = search (rules, tips_within c.args.n c.loop-r.r (omega arith) c.side_column-front.ensures c.cell_at-in-loop-r.ensures)
 
 pub pack_run-requires-in-loop-r : goal.pack_run-requires-in-loop-r
-pack_run-requires-in-loop-r c = search (rules, room (goal.at.pack_run-requires-in-loop-r c).In-loop-r, tips_place_lem (goal.at.pack_run-requires-in-loop-r c).At-loop-r)
-
-pub overflow_add-to-in-loop-r : goal.overflow_add-to-in-loop-r
-overflow_add-to-in-loop-r c = search (rules, room (goal.at.overflow_add-to-in-loop-r c).In-loop-r, row_size (goal.at.overflow_add-to-in-loop-r c).At-loop-r)
+pack_run-requires-in-loop-r c = search (rules, tips_within c.args.n c.loop-r.r (omega arith) c.side_column-front.ensures c.cell_at-in-loop-r.ensures)
 
 pub loop-r-preserved : goal.loop-r-preserved
-loop-r-preserved c =
-    let args = c.args in (
-      row_behind args.at c.loop-r.r (8 * (args.n + 1)) c.loop-r.invariant.0 (row_size (goal.at.loop-r-preserved c).At-loop-r),
-      next_written _ (λ j _. length_packed_row args.n args.numbers.now j) c.loop-r.invariant.1 (omega arith) c.loop-r.invariant.0
-          (pack_runs _ _ args.n _ _ (front_size (goal.at.loop-r-preserved c).At-loop-r) (tips_place_lem (goal.at.loop-r-preserved c).At-loop-r) c.pack_run.ensures c.pack_run-in-loop-r.ensures),
-    )
+loop-r-preserved c = written (goal.at.loop-r-preserved c).After-pack_run-in-loop-r
 
-pub returns : goal.returns
-returns c = all_written c.loop-r.invariant.1 (omega arith)
+-- the last row
+pub returns-2 : goal.returns-2
+returns-2 c = all_written (written (goal.at.returns-2 c).After-pack_run-in-loop-r) (omega arith)

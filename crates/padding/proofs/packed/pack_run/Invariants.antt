@@ -1,5 +1,5 @@
 -- `pack_run` writes one number after the other, each behind the one before it.
-use Prim.Native.Nat.{◌+◌, ◌-◌}
+use Prim.Native.Nat.{◌+◌}
 use lib.ListN.{get_or}
 use Rattle.rules.specs.Numbers.{bytes}
 use Rattle.rules.proofs.Loops.Writing.{Written}
@@ -7,6 +7,3 @@ use Rattle.padding.proofs.packed.pack_run.Given as goal
 
 abbrev pub invariant-loop-k : goal.invariant-loop-k
 invariant-loop-k l = Written l.initial.bytes l.at l.count (λ j. bytes 4 (get_or l.numbers (l.from + j) 0)) l.k l.bytes
-
-abbrev pub decreases-loop-k : goal.decreases-loop-k
-decreases-loop-k l = l.count - l.k

@@ -1,59 +1,39 @@
 -- `pad_rows` reads one row after the other.
-use Prim.Native.Nat.{ℕ, ◌+◌, ◌*◌, ◌≤◌}
+use Prim.Native.Nat.{◌+◌}
 use native.Mathlib.Omega.{arith}
-use mathlib.Core.Path.{◌≡◌, ap}
-use lib.ListN.{length}
-use Rattle.rules.specs.Numbers.{number}
-use Rattle.rules.specs.Layout.{row_length, cell_at}
-use Rattle.rules.proofs.File.Body.{row_within}
-use Rattle.padding.proofs.PaddedRows.{no_rows, next_row, all_rows}
-use Rattle.padding.proofs.Halves.{front_is, tips_at, size_is, row_behind}
 use borrow.Author.Rules.{rules}
+use Rattle.rules.specs.Numbers.{number}
+use Rattle.rules.specs.Layout.{cell_at}
+use Rattle.padding.proofs.PaddedRows.{Rows, no_rows, next_padded, all_rows}
+use Rattle.padding.proofs.Halves.{front_is, front_within, tips_within}
 use Rattle.padding.proofs.padded.pad_rows.Goals as goal
-use Rattle.padding.proofs.padded.pad_rows.Goals.{At-loop-r, In-loop-r}
+use Rattle.padding.proofs.padded.pad_rows.Goals.{After-pad_run-in-loop-r}
 
--- the numbers that the loop goes by
-module _ (c : At-loop-r) where
-  front_size : c.side_column-front.result ≡ 2 + c.args.n
-  front_size = front_is c.args.n c.side_column-front.ensures
-
-  tips_place_lem : c.cell_at-tips.result ≡ 8 + 4 * c.args.n
-  tips_place_lem = tips_at c.args.n c.side_column-front.ensures c.cell_at-tips.ensures
-
-  row_size : c.row_length-size.result ≡ 8 * (c.args.n + 1)
-  row_size = size_is c.args.n c.row_length-size.ensures
-
--- the row that is read lies in the bytes
-within : (c : In-loop-r) → let a = c.args in c.loop-r.from + 8 * (a.n + 1) ≤ length a.bytes.now
-unfolding row_length
-within c =
-    omega (arith, c.loop-r.invariant.0, row_within c.args.n c.loop-r.r (omega arith), c.requires.within)
+read : (c : After-pad_run-in-loop-r) → let a = c.args in Rows a.n (λ row column. number 4 a.bytes.now (a.at + cell_at a.n row column)) (c.loop-r.r + 1) c.pad_run-in-loop-r.new.out
+read c =
+    next_padded c.args.n c.args.at c.args.bytes.now c.requires.desks_most c.loop-r.invariant (omega arith) c.side_column-front.ensures c.cell_at.ensures
+    c.cell_at-in-loop-r.ensures c.from-to.ensures c.from.ensures c.from-in-loop-r.ensures c.pad_run.ensures c.pad_run-in-loop-r.ensures
 
 pub loop-r-init : goal.loop-r-init
-loop-r-init c = (omega arith, no_rows _ _ c.requires.zeros)
+loop-r-init c = no_rows _ _ c.requires.zeros
+
+pub overflow_add-at : goal.overflow_add-at
+overflow_add-at c = search (rules, front_within c.args.n c.loop-r.r (omega arith) c.side_column-front.ensures c.cell_at.ensures)
 
 pub pad_run-requires : goal.pad_run-requires
-pad_run-requires c = search (rules, within (goal.at.pad_run-requires c).In-loop-r, front_size (goal.at.pad_run-requires c).At-loop-r, c.loop-r.invariant.1)
+pad_run-requires c =
+    search (rules, front_within c.args.n c.loop-r.r (omega arith) c.side_column-front.ensures c.cell_at.ensures, front_is c.args.n c.side_column-front.ensures, c.loop-r.invariant)
 
-pub overflow_add-from : goal.overflow_add-from
-overflow_add-from c = search (rules, within (goal.at.overflow_add-from c).In-loop-r, tips_place_lem (goal.at.overflow_add-from c).At-loop-r)
+pub overflow_add-at-in-loop-r : goal.overflow_add-at-in-loop-r
+overflow_add-at-in-loop-r c = search (rules, tips_within c.args.n c.loop-r.r (omega arith) c.side_column-front.ensures c.cell_at-in-loop-r.ensures)
 
 pub pad_run-requires-in-loop-r : goal.pad_run-requires-in-loop-r
-pad_run-requires-in-loop-r c = search (rules, within (goal.at.pad_run-requires-in-loop-r c).In-loop-r, tips_place_lem (goal.at.pad_run-requires-in-loop-r c).At-loop-r, c.loop-r.invariant.1)
-
-pub overflow_add-from-in-loop-r : goal.overflow_add-from-in-loop-r
-overflow_add-from-in-loop-r c = search (rules, within (goal.at.overflow_add-from-in-loop-r c).In-loop-r, row_size (goal.at.overflow_add-from-in-loop-r c).At-loop-r)
+pad_run-requires-in-loop-r c =
+    search (rules, tips_within c.args.n c.loop-r.r (omega arith) c.side_column-front.ensures c.cell_at-in-loop-r.ensures, c.loop-r.invariant)
 
 pub loop-r-preserved : goal.loop-r-preserved
-unfolding cell_at row_length
-loop-r-preserved c =
-    let a = c.args in
-    let read : ℕ → ℕ = number 4 a.bytes.now in (
-      row_behind a.at c.loop-r.r (8 * (a.n + 1)) c.loop-r.invariant.0 (row_size (goal.at.loop-r-preserved c).At-loop-r),
-      rw (c.pad_run-in-loop-r.ensures, c.pad_run.ensures, front_size (goal.at.loop-r-preserved c).At-loop-r)
-          (next_row _ _ c.requires.desks_most c.loop-r.r _ _ c.loop-r-test.true c.loop-r.invariant.1
-          (λ j. ap read (omega (arith, c.loop-r.invariant.0))) (λ j. ap read (omega (arith, c.loop-r.invariant.0, tips_place_lem (goal.at.loop-r-preserved c).At-loop-r)))),
-    )
+loop-r-preserved c = read (goal.at.loop-r-preserved c).After-pad_run-in-loop-r
 
-pub returns : goal.returns
-returns c = all_rows _ _ c.requires.desks_most c.loop-r.invariant.1 c.loop-r-test.false
+-- the last row
+pub returns-2 : goal.returns-2
+returns-2 c = all_rows _ _ c.requires.desks_most (read (goal.at.returns-2 c).After-pad_run-in-loop-r) (omega arith)

@@ -1,5 +1,5 @@
 -- `pad_run` stores one number after the other, as `sets` does.
-use Prim.Native.Nat.{◌+◌, ◌-◌, ◌*◌}
+use Prim.Native.Nat.{◌+◌, ◌*◌}
 use mathlib.Core.List.{[], ◌∷◌}
 use Rattle.rules.specs.Numbers.{number}
 use Rattle.rules.proofs.Loops.Writing.{Written}
@@ -7,6 +7,3 @@ use Rattle.padding.proofs.padded.pad_run.Given as goal
 
 abbrev pub invariant-loop-k : goal.invariant-loop-k
 invariant-loop-k l = Written l.initial.out l.to l.count (λ j. number 4 l.bytes (l.from + j * 4) ∷ []) l.k l.out
-
-abbrev pub decreases-loop-k : goal.decreases-loop-k
-decreases-loop-k l = l.count - l.k

@@ -1,5 +1,4 @@
 -- `rows_padding_zero` tests the rows of n desks one after the other, and those past them as one range.
-use Prim.Native.Nat.{◌-◌, ◌≤◌}
 use mathlib.Core.Path.{◌≡◌}
 use mathlib.Core.Bool.{true}
 use Rattle.rules.specs.Loops.{every}
@@ -7,7 +6,4 @@ use Rattle.padding.proofs.Unused.{row_padding, row_at}
 use Rattle.padding.proofs.zeros.rows_padding_zero.Given as goal
 
 abbrev pub invariant-loop-i : goal.invariant-loop-i
-invariant-loop-i l = (l.i ≤ l.n) × (every l.i (λ j. row_padding l.numbers l.n (row_at j)) ≡ true)
-
-abbrev pub decreases-loop-i : goal.decreases-loop-i
-decreases-loop-i l = l.n - l.i
+invariant-loop-i l = every l.i (λ j. row_padding l.numbers l.n (row_at j)) ≡ true

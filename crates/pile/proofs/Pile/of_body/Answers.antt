@@ -4,7 +4,7 @@ use Rattle.pile.proofs.RecordNumbers.{padded_listed}
 use Rattle.pile.proofs.Pile.of_body.Goals as goal
 
 pub record_of-requires : goal.record_of-requires
-record_of-requires c = let l = padded_listed _ _ _ c.pad.ensures.out in (l.long, l.few)
+record_of-requires c = (padded_listed _ _ _ c.pad.ensures.out).few
 
 pub returns : goal.returns
 returns c = c.record_of.ensures ∙ (padded_listed _ _ _ c.pad.ensures.out).is

@@ -1,38 +1,30 @@
--- `rights_of` replies with what the record's body leaves the desk, which is at most the top.
+-- `rights_of` hands out what the record's body leaves the desk, which is at most the top.
 use native.Mathlib.Omega.{arith}
-use mathlib.Core.Path.{◌≡◌, ◌∙◌}
-use lib.ListN.{length}
+use mathlib.Core.Path.{sym, ◌∙◌}
 use Rattle.rules.specs.Pile.{side_of}
-use Rattle.rules.specs.Record.{record_answer, InMemory}
+use Rattle.refusal.proofs.Refused.{number_is_not_0, handed_on}
 use Rattle.pile.specs.View.{as_record}
-use Rattle.pile.proofs.Packed.{passed, rights_read, rights_small}
-use Rattle.pile.proofs.Replies.{rights_refused, rights_11, rights_value}
-use borrow.Author.Rules.{rules}
+use Rattle.pile.proofs.ActLines.{desk_own, desk_11, desk_0}
+use Rattle.pile.proofs.Packed.{rights_read, rights_small}
 use Rattle.pile.proofs.queries.rights_of.Goals as goal
-use Rattle.pile.proofs.queries.rights_of.Goals.{After-body_of-found, Else-answer-ne0, Start}
 
-arrays : (c : Start) → InMemory (as_record c.args.p)
-arrays c = record { shares_long = search rules; tallies_long = search rules }
+pub returns-in_err-body-clause-answer : goal.returns-in_err-body-clause-answer
+returns-in_err-body-clause-answer c =
+    let refusal = c.in_err-body.field-0.0 in
+    handed_on c.from_residual.result refusal c.from_residual.ensures.1
+    ∙ desk_own (as_record c.args.p) c.args.desk c.in_err-body.ensures.answer (number_is_not_0 refusal)
 
-long : (c : After-body_of-found) → length c.body_of-found.result.body ≡ 648
-long c = search rules
-
-lawful : (c : Else-answer-ne0) → record_answer (as_record c.args.p) ≡ 0
-lawful c = passed _ (arrays (goal.at.Else-answer-ne0 c).Start) c.body_of-found.ensures (long (goal.at.Else-answer-ne0 c).After-body_of-found) c.if-answer-ne0.false
-
-pub returns-then-answer-ne0 : goal.returns-then-answer-ne0
-returns-then-answer-ne0 c = rights_refused _ _ _ _ c.body_of-found.ensures.answer_is c.if-answer-ne0.true
-
-pub returns-then-p-desk : goal.returns-then-p-desk
-returns-then-p-desk c = rights_11 _ _ _ (lawful (goal.at.returns-then-p-desk c).Else-answer-ne0) c.if-p-desk.true
+pub returns-then-p-desk-clause-answer : goal.returns-then-p-desk-clause-answer
+returns-then-p-desk-clause-answer c = desk_11 (as_record c.args.p) c.args.desk (sym c.in_ok-body.ensures.answer) c.if-p-desk.true
 
 pub overflow_cast-result : goal.overflow_cast-result
 overflow_cast-result c =
-    let a = c.args in
-    omega (arith, c.rights_in.ensures, rights_small (as_record a.p) (arrays (goal.at.overflow_cast-result c).Start) c.body_of-found.ensures (long (goal.at.overflow_cast-result c).After-body_of-found) c.if-answer-ne0.false (side_of a.side) a.desk c.if-p-desk.false)
+    omega (arith, c.rights_in.ensures, rights_small (as_record c.args.p) c.in_ok-body.ensures.body (side_of c.args.side) c.args.desk c.if-p-desk.false)
 
 pub returns : goal.returns
 returns c =
-    let a = c.args in
-    rights_value _ _ _ _ (lawful (goal.at.returns c).Else-answer-ne0) c.if-p-desk.false
-    (c.rights_in.ensures ∙ rights_read (as_record a.p) (arrays (goal.at.returns c).Start) c.body_of-found.ensures (long (goal.at.returns c).After-body_of-found) c.if-answer-ne0.false (side_of a.side) a.desk c.if-p-desk.false)
+    let r = as_record c.args.p in
+    record {
+      answer = desk_0 r c.args.desk (sym c.in_ok-body.ensures.answer) c.if-p-desk.false;
+      rights = c.rights_in.ensures ∙ rights_read r c.in_ok-body.ensures.body (side_of c.args.side) c.args.desk c.if-p-desk.false;
+    }

@@ -1,5 +1,4 @@
 -- `put_entries` reads one entry after the other where the layout has it, and fills both lists from the front.
-use Prim.Native.Nat.{◌-◌}
 use Rattle.rules.specs.Layout.{pile_number, position}
 use Rattle.pitbook.proofs.Filling.{Filling}
 use Rattle.pitbook.proofs.contents.put_entries.Given as goal
@@ -7,6 +6,3 @@ use Rattle.pitbook.proofs.contents.put_entries.Given as goal
 abbrev pub invariant-loop-k : goal.invariant-loop-k
 invariant-loop-k l =
     Filling (pile_number l.book) l.initial.numbers l.p l.k l.numbers × Filling (position l.book) l.initial.positions l.p l.k l.positions
-
-abbrev pub decreases-loop-k : goal.decreases-loop-k
-decreases-loop-k l = l.p - l.k

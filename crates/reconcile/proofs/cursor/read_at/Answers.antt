@@ -13,5 +13,5 @@ returns-then-at-list c =
     let size : a.at + 11 - a.at ≡ 11 = omega arith in
     sym (read_inside _ _ (omega arith) ∙ rw (start, ← size) (sym c.read.ensures))
 
-pub returns : goal.returns
-returns c = sym (read_end _ _ (omega arith))
+pub returns-else-at-list : goal.returns-else-at-list
+returns-else-at-list c = sym (read_end _ _ (omega arith))

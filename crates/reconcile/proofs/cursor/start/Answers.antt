@@ -3,4 +3,4 @@ use Rattle.reconcile.proofs.Cursors.{started}
 use Rattle.reconcile.proofs.cursor.start.Goals as goal
 
 pub returns : goal.returns
-returns c = started _ c.read_at-first.ensures
+returns c = rw (c.and.ensures, c.unwrap_or.ensures) (started _ _ c.read_at-first.ensures)

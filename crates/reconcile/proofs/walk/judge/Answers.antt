@@ -1,36 +1,42 @@
 -- `judge` asks line after line.
-use Prim.Native.Nat.{ℕ}
-use mathlib.Core.Path.{◌≡◌, refl, sym, ◌∙◌}
-use Rattle.rules.specs.Refusals.{◌when◌, ◌or_else◌}
-use Rattle.rules.proofs.Loops.Refusals.{own_refusal, or_else_passes}
+use native.Mathlib.Omega.{arith}
+use mathlib.Core.Path.{ap}
+use Rattle.refusal.specs.Answers.{answered}
+use Rattle.refusal.proofs.Refused.{number_is_not_0, handed_on}
+use Rattle.rules.specs.Refusals.{◌when◌}
+use Rattle.rules.proofs.Loops.Refusals.{or_else_passes, or_else_stands}
 use Rattle.reconcile.proofs.walk.judge.Goals as goal
-use Rattle.reconcile.proofs.walk.judge.Goals.{Else-desk-ne0}
 
-pub returns-then-bridge-ne0 : goal.returns-then-bridge-ne0
-returns-then-bridge-ne0 c = own_refusal refl c.if-bridge-ne0.true _
+pub returns-in_err-bridge : goal.returns-in_err-bridge
+returns-in_err-bridge c =
+    let told = handed_on _ _ c.from_residual.ensures.1 in
+    let own = ap answered c.in_err-bridge.was in
+    grind (arith, or_else_stands, number_is_not_0)
 
-pub returns-then-desk-ne0 : goal.returns-then-desk-ne0
-returns-then-desk-ne0 c = own_refusal refl c.if-desk-ne0.true _ ∙ sym (or_else_passes c.if-bridge-ne0.false _)
-
--- neither list has a refused ticket
-tickets_right : (c : Else-desk-ne0) (answer rest : ℕ) → let args = c.args in
-    answer ≡ rest → answer ≡ args.bridge.answer or_else args.desk.answer or_else rest
-tickets_right c answer rest e = e ∙ sym (or_else_passes c.if-bridge-ne0.false _ ∙ or_else_passes c.if-desk-ne0.false rest)
+pub returns-in_err-desk : goal.returns-in_err-desk
+returns-in_err-desk c =
+    let told = handed_on _ _ c.from_residual-in_err-desk.ensures.1 in
+    let own = ap answered c.in_err-desk.was in
+    let passed = ap answered c.in_ok-bridge.was in
+    grind (arith, or_else_passes, or_else_stands, number_is_not_0)
 
 pub returns-then-not-bridge : goal.returns-then-not-bridge
-unfolding ◌when◌ ◌or_else◌
-returns-then-not-bridge c = let fall = c.if-not-bridge.true in tickets_right (goal.at.returns-then-not-bridge c).Else-desk-ne0 36 _ (rw fall refl)
+unfolding ◌when◌
+returns-then-not-bridge c =
+    let bridge = ap answered c.in_ok-bridge.was in
+    let desk = ap answered c.in_ok-desk.was in
+    grind (arith, or_else_passes, or_else_stands)
 
 pub returns-then-not-desk : goal.returns-then-not-desk
-unfolding ◌when◌ ◌or_else◌
+unfolding ◌when◌
 returns-then-not-desk c =
-    let rise = c.if-not-bridge.false in
-    let fall = c.if-not-desk.true in
-    tickets_right (goal.at.returns-then-not-desk c).Else-desk-ne0 37 _ (rw rise (rw fall refl))
+    let bridge = ap answered c.in_ok-bridge.was in
+    let desk = ap answered c.in_ok-desk.was in
+    grind (arith, or_else_passes, or_else_stands)
 
 pub returns : goal.returns
-unfolding ◌when◌ ◌or_else◌
+unfolding ◌when◌
 returns c =
-    let rise = c.if-not-bridge.false in
-    let rise' = c.if-not-desk.false in
-    tickets_right (goal.at.returns c).Else-desk-ne0 0 _ (rw rise (rw rise' refl))
+    let bridge = ap answered c.in_ok-bridge.was in
+    let desk = ap answered c.in_ok-desk.was in
+    grind (arith, or_else_passes)

@@ -1,10 +1,11 @@
 -- `step` passes the smaller of the two numbers that come next, in every list that has it.
 use Prim.Native.Nat.{◌<◌}
 use native.Mathlib.Omega.{arith}
-use mathlib.Core.Path.{◌≡◌, sym}
+use mathlib.Core.Path.{◌≡◌, sym, ◌∙◌}
 use mathlib.Core.Bool.{true, false}
 use lib.ListN.{length}
 use Rattle.reconcile.proofs.Cursors.{moved}
+use Rattle.reconcile.proofs.SameTicket.{derived_same}
 use Rattle.reconcile.proofs.Steps.{own_inside, own_passed, seen_passed, both_inside, past_both}
 use Rattle.reconcile.proofs.walk.step.Goals as goal
 use Rattle.reconcile.proofs.walk.step.Goals.{Else-walk-2}
@@ -57,16 +58,16 @@ advance-next-requires-2 c = (c.requires.walked_so_far.of_bridge.standing, at_bri
 pub advance-next-requires-3 : goal.advance-next-requires-3
 advance-next-requires-3 c = (c.requires.walked_so_far.of_desk.standing, at_desk (goal.at.advance-next-requires-3 c).Else-walk-2)
 
-pub returns-then-same_ticket : goal.returns-then-same_ticket
-returns-then-same_ticket c =
-    let at = (goal.at.returns-then-same_ticket c).Else-walk-2 in
-    let both = past_both c.requires.walked_so_far (at_bridge at) (at_desk at) (equal at) true (sym c.if-same_ticket.ensures)
+pub returns-then-eq : goal.returns-then-eq
+returns-then-eq c =
+    let at = (goal.at.returns-then-eq c).Else-walk-2 in
+    let both = past_both c.requires.walked_so_far (at_bridge at) (at_desk at) (equal at) true (sym (derived_same _ _) ∙ sym c.if-eq.ensures)
     c.advance-next-2.ensures c.advance-next-3.ensures in
     record { walked = both.0; further = both.1 }
 
 pub returns : goal.returns
 returns c =
     let at = (goal.at.returns c).Else-walk-2 in
-    let both = past_both c.requires.walked_so_far (at_bridge at) (at_desk at) (equal at) false (sym c.if-same_ticket.ensures)
+    let both = past_both c.requires.walked_so_far (at_bridge at) (at_desk at) (equal at) false (sym (derived_same _ _) ∙ sym c.if-eq.ensures)
     c.advance-next-2.ensures c.advance-next-3.ensures in
     record { walked = both.0; further = both.1 }

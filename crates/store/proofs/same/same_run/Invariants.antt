@@ -1,5 +1,5 @@
 -- `same_run` goes over all of the numbers, and keeps whether each was the same so far.
-use Prim.Native.Nat.{◌+◌, ◌-◌, ◌*◌, ◌≤◌}
+use Prim.Native.Nat.{◌+◌, ◌*◌}
 use mathlib.Core.Path.{◌≡◌}
 use lib.ListN.{get_or}
 use lib.Dec.{eqb}
@@ -9,7 +9,4 @@ use Rattle.store.proofs.same.same_run.Given as goal
 
 abbrev pub invariant-loop-k : goal.invariant-loop-k
 invariant-loop-k l =
-    (l.k ≤ l.count) × (l.same ≡ every l.k (λ j. eqb (get_or l.numbers (l.from + j) 0) (number 4 l.book (l.at + j * 4))))
-
-abbrev pub decreases-loop-k : goal.decreases-loop-k
-decreases-loop-k l = l.count - l.k
+    l.same ≡ every l.k (λ j. eqb (get_or l.numbers (l.from + j) 0) (number 4 l.book (l.at + j * 4)))

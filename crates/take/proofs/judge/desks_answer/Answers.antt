@@ -1,50 +1,51 @@
 -- `desks_answer` judges one desk's rows after the other and marks those that are later in the copy; it stops at the first that are refused.
-use Prim.Native.Nat.{ℕ, ◌+◌}
+use Prim.Native.Nat.{suc, ◌+◌, ◌*◌, ◌<◌}
 use native.Mathlib.Omega.{arith}
-use mathlib.Core.Path.{◌≡◌, refl, sym, subst⁻¹, ◌∙◌}
-use lib.ListN.{length, length-set}
+use mathlib.Core.Path.{◌≡◌, refl, ◌∙◌}
+use Rattle.rules.proofs.Loops.Ranges.{piece_within}
 use Rattle.rules.proofs.Loops.PassedSoFar.{none_asked, next_passed, refused_first}
-use Rattle.take.specs.Inner.{Marked}
-use Rattle.take.proofs.Marking.{next_marked, next_unmarked}
+use Rattle.rules.proofs.Take.RowBytes.{is_row_length_lem}
+use Rattle.refusal.proofs.Refused.{number_is_not_0, handed_on}
+use Rattle.take.proofs.Marking.{row_in_both, next_marked, next_unmarked}
 use Rattle.take.proofs.judge.desks_answer.Goals as goal
-use Rattle.take.proofs.judge.desks_answer.Goals.{Joined-later, then-later, else-later}
+use Rattle.take.proofs.judge.desks_answer.Goals.{After-from-in-loop-i, In-loop-i}
+
+-- the number of this turn's row, as it is computed and by the pile and the desk
+place : (c : After-from-in-loop-i) → let a = c.args in
+    c.from.result * (c.from-2.result + 1) + 1 + c.from-in-loop-i.result ≡ a.k * suc a.head.desks + suc c.loop-i.i
+place c = rw (c.from.ensures, c.from-2.ensures, c.from-in-loop-i.ensures) (omega arith)
+
+among : (c : In-loop-i) → let a = c.args in a.k * suc a.head.desks + suc c.loop-i.i < a.head.piles * suc a.head.desks
+among c = omega (arith, piece_within (suc c.args.head.desks) c.requires.pile, c.loop-i-test.true)
 
 pub loop-i-init : goal.loop-i-init
-loop-i-init c =
-    let a = c.args in
-    let none : a.from + 0 ≡ a.from = omega arith in (
-      none_asked,
-      rw none (subst⁻¹ (λ (row : ℕ). Marked a.front row a.from a.own.now a.copy.now a.marks.now) c.row_length-row.ensures c.requires.before),
-      refl,
-    )
+loop-i-init c = (none_asked, next_unmarked c.requires.before (c.requires.piles.openings _ c.requires.pile))
 
-pub returns-then-answer-ne0-clause-answer : goal.returns-then-answer-ne0-clause-answer
-returns-then-answer-ne0-clause-answer c =
-    rw c.row_length-row.ensures at
-    (refused_first c.loop-i.invariant.0 c.loop-i-test.true c.judge_row-judged.ensures.answer c.if-answer-ne0.true)
+pub judge_row-requires : goal.judge_row-requires
+judge_row-requires c =
+    let at = goal.at.judge_row-requires c in
+    let piles = c.requires.piles in
+    rw (place at.After-from-in-loop-i, c.front_length-front.ensures, c.row_length-row.ensures) (record {
+      within = row_in_both piles.rows _ (among at.In-loop-i);
+      is_row = is_row_length_lem _ piles.sizes.desks_least piles.sizes.desks_most;
+    })
 
--- what a row's mark is: set where the copy's is later, and otherwise left unset
-marked : (c : Joined-later) → let a = c.args in
-    Marked a.front c.row_length-row.result (a.from + c.loop-i.i + 1) a.own.now a.copy.now c.if-later.marks
-    × (length c.if-later.marks ≡ length a.marks.now)
-marked c =
-    let inv = c.loop-i.invariant in
-    let said = c.judge_row-judged.ensures.later in
-    elim c.if-later.branch [
-      | then-later w ↦ (
-        rw w.marks-is (next_marked inv.1 (omega (arith, c.requires.room, inv.2)) (sym w.if-later.true ∙ said)),
-        rw (w.marks-is, length-set) inv.2,
-      )
-      | else-later w ↦ (rw w.marks-is (next_unmarked inv.1 (sym said ∙ w.if-later.false)), rw w.marks-is inv.2)
-    ]
+pub returns-in_err-marks-clause-answer : goal.returns-in_err-marks-clause-answer
+returns-in_err-marks-clause-answer c =
+    let at = goal.at.returns-in_err-marks-clause-answer c in
+    handed_on c.from_residual.result c.in_err-marks.field-0.0 c.from_residual.ensures.1
+    ∙ refused_first c.loop-i.invariant.0 c.loop-i-test.true
+    (rw (place at.After-from-in-loop-i, c.front_length-front.ensures, c.row_length-row.ensures) at c.in_err-marks.ensures.answer) (number_is_not_0 _)
 
 pub loop-i-preserved : goal.loop-i-preserved
 loop-i-preserved c =
-    let from = c.args.from in
-    let i = c.loop-i.i in
-    let next : from + (i + 1) ≡ from + i + 1 = omega arith in
-    let mark = marked (goal.at.loop-i-preserved c).Joined-later in (
-      next_passed c.loop-i.invariant.0 c.loop-i-test.true c.judge_row-judged.ensures.answer c.if-answer-ne0.false,
-      rw next mark.0,
-      mark.1,
+    let at = goal.at.loop-i-preserved c in
+    let inv = c.loop-i.invariant in
+    let here = place at.After-from-in-loop-i in
+    let opening = c.args.k * suc c.args.head.desks in
+    let next : opening + suc (c.loop-i.i + 1) ≡ opening + suc c.loop-i.i + 1 = omega arith in (
+      next_passed inv.0 c.loop-i-test.true (rw (here, c.front_length-front.ensures, c.row_length-row.ensures) at c.in_ok-marks.ensures.answer) refl,
+      rw next
+          (next_marked inv.1 (omega (arith, among at.In-loop-i, c.requires.piles.rows.count_most)) here
+          (rw (here, c.front_length-front.ensures, c.row_length-row.ensures) at c.in_ok-marks.ensures.later)),
     )

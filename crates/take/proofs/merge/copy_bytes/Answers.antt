@@ -1,24 +1,27 @@
--- `copy_bytes` stores one byte after the other, as `sets` does.
+-- `copy_bytes` writes a part of the copy over that of the own book, as `sets` does.
+use Prim.Native.Nat.{ℕ, ◌+◌, ◌-◌, ◌≤◌}
 use native.Mathlib.Omega.{arith}
-use mathlib.Core.Path.{sym, ◌∙◌, ap}
-use lib.Seq.{sets}
-use Rattle.rules.specs.Loops.{list}
-use Rattle.rules.proofs.Loops.Pieces.{length_list, getD_list}
-use Rattle.rules.proofs.Loops.Parts.{part_is}
-use Rattle.rules.proofs.Loops.Writing.{none_written, next_number_lem, all_numbers}
+use mathlib.Core.Path.{◌≡◌, ap, sym, ◌∙◌}
+use mathlib.Core.List.{List, ◌++◌}
+use lib.ListN.{length, take, drop}
+use lib.Seq.{sets, sets-eq}
+use borrow.Rule.Slice.PartMut.{put_mid}
+use Rattle.std.proofs.Common.{append_assoc}
+use Rattle.std.proofs.lemmas.List.{drop-drop}
+use Rattle.rules.specs.Numbers.{part}
+use Rattle.rules.proofs.Loops.Parts.{length_part}
 use Rattle.take.proofs.merge.copy_bytes.Goals as goal
-use Rattle.take.proofs.merge.copy_bytes.Invariants.{byte}
 
-pub loop-k-init : goal.loop-k-init
-loop-k-init c = none_written
-
-pub loop-k-preserved : goal.loop-k-preserved
-loop-k-preserved c = next_number_lem c.loop-k.invariant c.loop-k-test.true
+-- a part that is written between what stands before and behind it
+part_put : (own piece : List ℕ) (at k : ℕ) → k ≡ length piece → at + k ≤ length own → put_mid at k own piece ≡ sets own at piece
+part_put own piece at k long fits =
+    ap (λ (behind : List ℕ). take at own ++ (piece ++ behind)) (drop-drop k at own ∙ ap (λ (n : ℕ). drop (at + n) own) long)
+    ∙ sym (sets-eq piece own at (omega arith) ∙ append_assoc (take at own) piece (drop (at + length piece) own))
 
 pub returns : goal.returns
 returns c =
     let a = c.args in
-    let bytes = byte a.copy.now a.at in
-    all_numbers c.loop-k.invariant (omega arith)
-    ∙ ap (sets a.own.now a.at) (sym (part_is a.at a.count a.copy.now (list a.count bytes) c.requires.in_copy (length_list a.count bytes)
-    (λ j l. sym (getD_list a.count bytes 0 j l))))
+    let count : a.at + a.count - a.at ≡ a.count = omega arith in
+    let piece = part a.at a.count a.copy.now in
+    let copied : c.copy_from_slice.new.self ≡ piece = rw count at c.copy_from_slice.ensures.after in
+    rw (count, copied) (part_put a.own.now piece a.at a.count (sym (length_part a.at a.count a.copy.now c.requires.in_copy)) c.requires.in_own)

@@ -1,9 +1,8 @@
 -- `take_rows` goes by the marks, row after row: what was written before a row lies in front of it.
-use Prim.Native.Nat.{ℕ, ◌+◌, ◌-◌, ◌*◌}
-use mathlib.Core.Path.{◌≡◌}
+use Prim.Native.Nat.{ℕ, ◌+◌, ◌*◌}
 use mathlib.Core.Bool.{Bool, false}
 use mathlib.Core.List.{List}
-use lib.ListN.{get_or}
+use lib.ListN.{length, get_or}
 use Rattle.rules.proofs.Loops.Writing.{Written}
 use Rattle.take.proofs.Moved.{moved}
 use Rattle.take.proofs.merge.take_rows.Given as goal
@@ -12,7 +11,4 @@ abbrev pub taken : List ℕ → List ℕ → List Bool → ℕ → ℕ → ℕ �
 taken own copy marks at row r = moved own copy (at + r * row) row (get_or marks r false)
 
 abbrev pub invariant-loop-k : goal.invariant-loop-k
-invariant-loop-k l = (l.from ≡ l.at + l.k * l.row) × Written l.initial.own l.at l.rows (taken l.initial.own l.copy l.marks l.at l.row) l.k l.own
-
-abbrev pub decreases-loop-k : goal.decreases-loop-k
-decreases-loop-k l = l.rows - l.k
+invariant-loop-k l = Written l.initial.own l.at (length l.marks) (taken l.initial.own l.copy l.marks l.at l.row) l.k l.own

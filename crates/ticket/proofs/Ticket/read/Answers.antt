@@ -1,30 +1,43 @@
--- `read` asks the length, reads the three packed fields, and then asks the fields.
-use native.Mathlib.Nat.{suc-ne-zero}
+-- `read` asks line after line, and each `?` tells the refusal of its own line.
 use native.Mathlib.Omega.{arith}
-use mathlib.Core.Path.{◌≡◌, ◌∙◌}
-use Rattle.ticket.specs.Tickets.{ticket_of, read_answer}
-use Rattle.ticket.proofs.Lines.{unpacked, fields_read, reading_refused, reading_done, length_wrong_lem}
+use mathlib.Core.Path.{◌∙◌}
+use Rattle.refusal.proofs.Refused.{number_is_not_0}
+use Rattle.rules.proofs.Loops.Refusals.{or_else_passes, or_else_stands}
+use Rattle.refusal.specs.declared.Refusal.TheVariants.{LengthWrong}
+use Rattle.ticket.proofs.Lines.{length_wrong_lem, told_reading, reading_refused, reading_done}
 use Rattle.ticket.proofs.Ticket.read.Goals as goal
-use Rattle.ticket.proofs.Ticket.read.Goals.{After-fields_answer-answer}
 
 pub returns-then-bytes-ne-LENGTH : goal.returns-then-bytes-ne-LENGTH
-returns-then-bytes-ne-LENGTH c = c.refused.ensures ∙ reading_refused _ (length_wrong_lem c.args.bytes.now (λ e. omega arith)) (suc-ne-zero 2)
+returns-then-bytes-ne-LENGTH c = told_reading _ LengthWrong (length_wrong_lem c.args.bytes.now (λ e. omega arith))
 
--- the ticket that was read is that of the bytes, and so is the answer of its fields
-read_off : (c : After-fields_answer-answer) → let b = c.args.bytes.now in
-    (c.fields_answer-answer.result ≡ read_answer b)
-    × (unpacked b c.unpack-number.result.number c.unpack-pile.result.number c.unpack-tonnes.result.number ≡ ticket_of b)
-read_off c =
-    let number = c.unpack-number.ensures in
-    let pile = c.unpack-pile.ensures in
-    let tonnes = c.unpack-tonnes.ensures in
-    let read = fields_read c.args.bytes.now (omega arith) (number.right, number.number) (pile.right, pile.number) (tonnes.right, tonnes.number) in
-    (c.fields_answer-answer.ensures ∙ read.0, read.1)
+pub returns-in_err-unpack : goal.returns-in_err-unpack
+returns-in_err-unpack c = reading_refused _ _ _ c.from_residual.ensures.1 (omega arith) (grind (arith, or_else_passes, or_else_stands, number_is_not_0))
 
-pub returns-then-answer-ne0 : goal.returns-then-answer-ne0
-returns-then-answer-ne0 c =
-    let r = read_off (goal.at.returns-then-answer-ne0 c).After-fields_answer-answer in
-    c.refused-then-answer-ne0.ensures ∙ reading_refused _ r.0 c.if-answer-ne0.true
+pub returns-in_err-number : goal.returns-in_err-number
+returns-in_err-number c = reading_refused _ _ _ c.from_residual-in_err-number.ensures.1 (omega arith) (grind (arith, or_else_passes, or_else_stands, number_is_not_0))
+
+pub returns-in_err-unpack-2 : goal.returns-in_err-unpack-2
+returns-in_err-unpack-2 c = reading_refused _ _ _ c.from_residual-in_err-unpack-2.ensures.1 (omega arith) (grind (arith, or_else_passes, or_else_stands, number_is_not_0))
+
+pub returns-in_err-pile : goal.returns-in_err-pile
+returns-in_err-pile c = reading_refused _ _ _ c.from_residual-in_err-pile.ensures.1 (omega arith) (grind (arith, or_else_passes, or_else_stands, number_is_not_0))
+
+pub returns-in_err-unpack-3 : goal.returns-in_err-unpack-3
+returns-in_err-unpack-3 c = reading_refused _ _ _ c.from_residual-in_err-unpack-3.ensures.1 (omega arith) (grind (arith, or_else_passes, or_else_stands, number_is_not_0))
+
+pub returns-in_err-tonnes : goal.returns-in_err-tonnes
+returns-in_err-tonnes c = reading_refused _ _ _ c.from_residual-in_err-tonnes.ensures.1 (omega arith) (grind (arith, or_else_passes, or_else_stands, number_is_not_0))
+
+pub returns-in_err-kind : goal.returns-in_err-kind
+returns-in_err-kind c = reading_refused _ _ _ c.from_residual-in_err-kind.ensures.1 (omega arith) (grind (arith, or_else_passes, or_else_stands, number_is_not_0))
+
+pub returns-in_err-desk : goal.returns-in_err-desk
+returns-in_err-desk c = reading_refused _ _ _ c.from_residual-in_err-desk.ensures.1 (omega arith) (grind (arith, or_else_passes, or_else_stands, number_is_not_0))
 
 pub returns : goal.returns
-returns c = let r = read_off (goal.at.returns c).After-fields_answer-answer in reading_done _ r.0 c.if-answer-ne0.false r.1
+returns c =
+    reading_done _ (omega arith) (grind (arith, or_else_passes))
+    (c.in_ok-number.ensures.value ∙ c.in_ok-unpack.ensures.number)
+    (c.in_ok-pile.ensures.value ∙ c.in_ok-unpack-2.ensures.number)
+    (c.in_ok-tonnes.ensures.value ∙ c.in_ok-unpack-3.ensures.number)
+    c.in_ok-kind.ensures.value c.in_ok-desk.ensures.value

@@ -1,14 +1,8 @@
 -- `pack` writes from the last byte to the first: what it has not written yet, written over what it has, is the whole number.
-use Prim.Native.Nat.{◌≤◌}
 use mathlib.Core.Path.{◌≡◌}
-use lib.ListN.{length}
 use lib.Seq.{sets}
 use Rattle.ticket.specs.Packed.{packed_bytes}
 use Rattle.ticket.proofs.packed.pack.Given as goal
 
 abbrev pub invariant-loop-k : goal.invariant-loop-k
-invariant-loop-k l =
-    (l.k ≤ l.w) × (length l.s ≡ length l.initial.s) × (sets l.s l.at (packed_bytes l.k l.rest) ≡ sets l.initial.s l.at (packed_bytes l.w l.x))
-
-abbrev pub decreases-loop-k : goal.decreases-loop-k
-decreases-loop-k l = l.k
+invariant-loop-k l = sets l.s l.at (packed_bytes l.k l.rest) ≡ sets l.initial.s l.at (packed_bytes l.w l.x)

@@ -1,47 +1,48 @@
--- `unpack` goes over the bytes once, and keeps whether all digits so far are right and the number so far.
-use Prim.Native.Nat.{ℕ, zero, suc, ◌+◌, ◌*◌, ◌^◌, ◌≤◌, ◌<◌}
-use native.Mathlib.Nat.{pow-suc}
-use native.Mathlib.Numerals.{add-one}
+-- `unpack` goes over the bytes while their digits are right, and keeps the number so far.
+use Prim.Native.Nat.{ℕ, zero, suc, ◌+◌, ◌*◌, ◌<◌}
 use native.Mathlib.Omega.{arith}
 use mathlib.Core.Path.{◌≡◌, refl, ap, ap₂, sym, ◌∙◌}
-use borrow.Author.Rules.{rules}
+use mathlib.Core.Bool.{true, false, not}
+use mathlib.Core.List.{List}
 use Rattle.rules.specs.Loops.{every}
-use Rattle.rules.proofs.Loops.Logic.{and_true, and_right_fails}
+use Rattle.rules.specs.Refusals.{◌when◌}
+use Rattle.rules.proofs.Loops.Logic.{and_both}
+use Rattle.rules.proofs.Loops.Every.{every_stops}
+use Rattle.rules.proofs.Loops.Refusals.{not_met}
 use Rattle.ticket.specs.Packed.{packed_number, digits_right}
-use Rattle.ticket.proofs.Digits.{packed_next, right_next}
+use Rattle.ticket.proofs.Digits.{packed_next, right_next, packed_below}
 use Rattle.ticket.proofs.packed.unpack.Goals as goal
-use Rattle.ticket.proofs.packed.unpack.Goals.{then-not-pair_right, else-not-pair_right}
 
 pub loop-k-init : goal.loop-k-init
 unfolding packed_number digits_right every
-loop-k-init c = (search rules, refl, refl, search rules)
+loop-k-init c = (refl, refl)
 
-room : (k : ℕ) → k < 4 → 100 ^ k ≤ 1000000
-room zero l = omega arith
-room (suc zero) l = omega arith
-room (suc (suc zero)) l = omega arith
-room (suc (suc (suc zero))) l = omega arith
-room (suc (suc (suc (suc k)))) l = absurd (omega arith)
+pub returns-then-not-pair_right-clause-answer : goal.returns-then-not-pair_right-clause-answer
+unfolding digits_right ◌when◌
+returns-then-not-pair_right-clause-answer c =
+    let wrong : digits_right c.args.w c.args.s.now c.args.at ≡ false = every_stops c.args.w _ c.loop-k.k c.loop-k-test.true (sym c.if-not-pair_right.ensures) in
+    rw wrong refl
 
-hundredfold : (k : ℕ) → 100 ^ (k + 1) ≡ 100 ^ k * 100
-hundredfold k = ap (λ (n : ℕ). 100 ^ n) (add-one k) ∙ pow-suc 100 k
+-- two digits more make less than 2³²
+room : (b : List ℕ) (at k : ℕ) → k < 4 → digits_right k b at ≡ true → packed_number k b at < 1000000
+room b at zero l e = omega (arith, packed_below b at 0 e)
+room b at (suc zero) l e = omega (arith, packed_below b at 1 e)
+room b at (suc (suc zero)) l e = omega (arith, packed_below b at 2 e)
+room b at (suc (suc (suc zero))) l e = omega (arith, packed_below b at 3 e)
+room b at (suc (suc (suc (suc k)))) l e = absurd (omega arith)
 
 pub overflow_mul-number : goal.overflow_mul-number
-overflow_mul-number c = omega (arith, room c.loop-k.k (omega arith))
+overflow_mul-number c = omega (arith, room _ _ c.loop-k.k (omega arith) c.loop-k.invariant.0)
 
 pub overflow_add-number : goal.overflow_add-number
-overflow_add-number c = omega (arith, room c.loop-k.k (omega arith))
+overflow_add-number c = omega (arith, room _ _ c.loop-k.k (omega arith) c.loop-k.invariant.0)
 
 pub loop-k-preserved : goal.loop-k-preserved
 loop-k-preserved c =
-    let loop = c.loop-k in
-    let last = c.pair_right.ensures in (
-      omega arith,
-      elim c.if-not-pair_right.branch [
-        | then-not-pair_right w ↦ w.right-is ∙ sym (right_next _ _ _ ∙ and_right_fails _ (sym last ∙ w.if-not-pair_right.true))
-        | else-not-pair_right w ↦
-            w.right-is ∙ loop.invariant.1 ∙ sym (right_next _ _ _ ∙ rw (sym last ∙ w.if-not-pair_right.false) (and_true _))
-      ],
-      ap₂ (λ (x y : ℕ). 100 * x + y) loop.invariant.2 c.pair_number.ensures ∙ sym (packed_next _ _ _),
-      omega (arith, hundredfold loop.k),
+    let (right, number) = c.loop-k.invariant in (
+      right_next _ _ _ ∙ and_both right (sym c.if-not-pair_right.ensures),
+      ap₂ (λ (x y : ℕ). 100 * x + y) number (c.from.ensures ∙ c.pair_number.ensures) ∙ sym (packed_next _ _ _),
     )
+
+pub returns-clause-answer : goal.returns-clause-answer
+returns-clause-answer c = let done : c.loop-k.k ≡ c.args.w = omega arith in sym (not_met 33 (ap not (rw done at c.loop-k.invariant.0)))

@@ -1,0 +1,12 @@
+-- `kind` tells the refusal of a value outside its limits.
+use Rattle.std.proofs.Common.{refl, sym}
+use Rattle.rules.specs.Refusals.{◌when◌}
+use Rattle.ticket.proofs.fields.kind.Goals as goal
+
+pub returns-then-not-between-clause-answer : goal.returns-then-not-between-clause-answer
+unfolding ◌when◌
+returns-then-not-between-clause-answer c = rw (sym c.from.ensures, sym c.if-not-between.ensures) refl
+
+pub returns-clause-answer : goal.returns-clause-answer
+unfolding ◌when◌
+returns-clause-answer c = rw (sym c.from.ensures, sym c.if-not-between.ensures) refl
