@@ -1,30 +1,34 @@
--- What the functions that open a book ask of the list that it is opened from: no promise to a caller is made in these words.
+-- What the functions that open a book say of the list that it is opened from: no promise to a caller is made in these words.
 -- Assumes nothing.
-use Rattle.std.specs.Prelude.{ℕ, ◌+◌, ◌*◌, ◌≤◌, ◌≡◌, true, not, List, length}
+use Rattle.std.specs.Prelude.{ℕ, ◌≤◌, ◌≡◌, true, not, List, length}
 use Rattle.rules.specs.Refusals.{◌when◌, first}
-use Rattle.rules.specs.Pile.{opening_lawful}
-use Rattle.rules.specs.Layout.{head_for, desk_limit, pile_limit, front_length, book_length}
+use Rattle.rules.specs.Pile.{Pile, opening_lawful}
+use Rattle.rules.specs.Layout.{Head, head_for, front_length, book_length}
 use Rattle.rules.specs.Opening.{rising, given, given_pile}
+use Rattle.opening.specs.declared.given.Given.{Given}
 
--- The list has the numbers of p piles of n desks. It has those of pile k where it has those of k + 1 piles.
-pub record InList (n p : ℕ) (l : List ℕ) : Type 0 where
-  pub desks_most : n ≤ desk_limit
-  pub piles_most : p ≤ pile_limit
-  pub long : p * (3 + 2 * n) ≤ length l
+-- the number of pile k of the list, its opening, and the head of the book
+abbrev pub number_in : Given → ℕ → ℕ
+number_in g k = given g.desks g.numbers.now k 0
 
--- and there is a desk, as an opening has
-pub record Openings (n p : ℕ) (l : List ℕ) : Type 0 where
-  pub desks_least : 1 ≤ n
-  pub in_list : InList n p l
+abbrev pub pile_in : Given → ℕ → Pile
+pile_in g = given_pile g.desks g.numbers.now
 
--- a front can be written of them: there is room, and their numbers rise
-pub record FrontReady (n p : ℕ) (l out : List ℕ) : Type 0 where
-  pub openings : Openings n p l
-  pub room : front_length (head_for n p) ≤ length out
-  pub rises : rising p (λ k. given n l k 0) ≡ true
+abbrev pub book_head : Given → Head
+book_head g = head_for g.desks g.piles
 
--- and bodies: there is room, and their openings are lawful
-pub record BodiesReady (n p : ℕ) (l out : List ℕ) : Type 0 where
-  pub openings : Openings n p l
-  pub room : book_length (head_for n p) ≤ length out
-  pub lawful : first p (λ k. 5 when not (opening_lawful n (given_pile n l k))) ≡ 0
+-- its sizes and numbers are those that were handed over
+pub record IsGiven (g : Given) (n p : ℕ) (l : List ℕ) : Type 0 where
+  pub desks_are : g.desks ≡ n
+  pub piles_are : g.piles ≡ p
+  pub numbers_are : g.numbers.now ≡ l
+
+-- a front can be written of it: there is room, and its numbers rise
+pub record FrontReady (g : Given) (out : List ℕ) : Type 0 where
+  pub room : front_length (book_head g) ≤ length out
+  pub rises : rising g.piles (number_in g) ≡ true
+
+-- and bodies: there is room, and its openings are lawful
+pub record BodiesReady (g : Given) (out : List ℕ) : Type 0 where
+  pub room : book_length (book_head g) ≤ length out
+  pub lawful : first g.piles (λ k. 5 when not (opening_lawful g.desks (pile_in g k))) ≡ 0

@@ -2,45 +2,44 @@
 ghost use Rattle.std.specs.Prelude.{◌≡◌};
 ghost use Rattle.std.proofs.lemmas.List.Edits.{sets};
 ghost use Rattle.rules.specs.Loops.{flat};
-ghost use Rattle.rules.specs.Layout.{head_for, front_length, body_bytes, entry_bytes, front_bytes};
-ghost use Rattle.rules.specs.Opening.{given, given_pile};
-ghost use Rattle.opening.specs.Inner.{FrontReady, BodiesReady};
+ghost use Rattle.rules.specs.Layout.{front_length, body_bytes, entry_bytes, front_bytes};
+ghost use Rattle.opening.specs.Inner.{number_in, pile_in, book_head, FrontReady, BodiesReady};
 
-use crate::given::{given_pile, given_place};
+use crate::given::Given;
 use layout::contents::{put_entry, put_head};
-use layout::head::{front_length, head_for};
+use layout::head::front_length;
 use layout::lengths::body_length;
 use padding::pack;
 
-// The contents of p piles, behind the head.
-fn put_contents(out: &mut [u8], n: u8, p: u8, numbers: &[u32])
-    requires { FrontReady n p numbers.now out.old }
-    ensures { out.new ≡ sets out.old 4 (flat p (entry_bytes (head_for n p) (λ k. given n numbers.now k 0))) }
+// The contents, behind the head.
+fn put_contents(out: &mut [u8], given: &Given)
+    requires { FrontReady given.now out.old }
+    ensures { out.new ≡ sets out.old 4 (flat given.now.piles (entry_bytes (book_head given.now) (number_in given.now))) }
 {
-    let head = head_for(n, p);
-    for k in 0..p {
-        put_entry(out, head, k, numbers[given_place(n, k)] as u16).unwrap();
+    let head = given.head();
+    for k in 0..given.piles {
+        put_entry(out, head, k, given.number(k) as u16).unwrap();
     }
 }
 
 // The head, and then the contents.
-pub(crate) fn put_front(out: &mut [u8], n: u8, p: u8, numbers: &[u32])
-    requires { FrontReady n p numbers.now out.old }
-    ensures { out.new ≡ sets out.old 0 (front_bytes (head_for n p) (λ k. given n numbers.now k 0)) }
+pub(crate) fn put_front(out: &mut [u8], given: &Given)
+    requires { FrontReady given.now out.old }
+    ensures { out.new ≡ sets out.old 0 (front_bytes (book_head given.now) (number_in given.now)) }
 {
-    put_head(out, head_for(n, p)).unwrap();
-    put_contents(out, n, p, numbers);
+    put_head(out, given.head()).unwrap();
+    put_contents(out, given);
 }
 
-// The bodies of p piles, one after the other, where their openings are lawful.
-pub(crate) fn put_bodies(out: &mut [u8], n: u8, p: u8, numbers: &[u32])
-    requires { BodiesReady n p numbers.now out.old }
-    ensures { out.new ≡ sets out.old (front_length (head_for n p)) (flat p (λ k. body_bytes n (given_pile n numbers.now k))) }
+// The bodies, one after the other, where the openings of all piles are lawful.
+pub(crate) fn put_bodies(out: &mut [u8], given: &Given)
+    requires { BodiesReady given.now out.old }
+    ensures { out.new ≡ sets out.old (front_length (book_head given.now)) (flat given.now.piles (λ k. body_bytes given.now.desks (pile_in given.now k))) }
 {
-    let size = body_length(n);
-    let mut at = front_length(head_for(n, p));
-    for k in 0..p {
-        let pile = given_pile(numbers, n, k).unwrap();
+    let size = body_length(given.desks);
+    let mut at = front_length(given.head());
+    for k in 0..given.piles {
+        let pile = given.pile(k).unwrap();
         pack(&pile.numbers(), out, at).unwrap();
         at += size;
     }

@@ -1,24 +1,23 @@
 // The first refusal of an opening.
-ghost use Rattle.std.specs.Prelude.{◌≡◌, not};
+ghost use Rattle.std.specs.Prelude.{◌≡◌, not, IfOk};
 ghost use Rattle.rules.specs.Refusals.{◌when◌, first};
 ghost use Rattle.rules.specs.Pile.{opening_lawful};
-ghost use Rattle.rules.specs.Opening.{rising, given, given_pile, opening_answer};
-ghost use Rattle.opening.specs.Inner.{InList, Openings};
+ghost use Rattle.rules.specs.Opening.{rising, opening_answer};
+ghost use Rattle.opening.specs.Inner.{number_in, pile_in, IsGiven};
 ghost use Rattle.refusal.specs.Answers.{answered};
 
-use crate::given::{given_pile, given_place};
+use crate::given::{Given, pile_size};
 use layout::head::{book_length, sizes_in_range};
 use layout::limits::LAST_NUMBER;
 use refusal::Refusal;
 
-// Do the list's pile numbers rise from above 0, none above the highest?
-fn numbers_rise(numbers: &[u32], n: u8, p: u8) -> bool
-    requires { InList n p numbers.now }
-    ensures { result ≡ rising p (λ k. given n numbers.now k 0) }
+// Do the pile numbers rise from above 0, none above the highest?
+fn numbers_rise(given: &Given) -> bool
+    ensures { result ≡ rising given.now.piles (number_in given.now) }
 {
     let mut last: u32 = 0;
-    for k in 0..p {
-        let number = numbers[given_place(n, k)];
+    for k in 0..given.piles {
+        let number = given.number(k);
         if number <= last || LAST_NUMBER < number {
             return false;
         }
@@ -28,32 +27,42 @@ fn numbers_rise(numbers: &[u32], n: u8, p: u8) -> bool
 }
 
 // 5 where the opening of a pile is unlawful.
-fn openings_answer(numbers: &[u32], n: u8, p: u8) -> Result<(), Refusal>
-    requires { Openings n p numbers.now }
-    ensures { answered result ≡ first p (λ k. 5 when not (opening_lawful n (given_pile n numbers.now k))) }
+fn openings_answer(given: &Given) -> Result<(), Refusal>
+    ensures { answered result ≡ first given.now.piles (λ k. 5 when not (opening_lawful given.now.desks (pile_in given.now k))) }
 {
-    for k in 0..p {
-        given_pile(numbers, n, k)?;
+    for k in 0..given.piles {
+        given.pile(k)?;
     }
     Ok(())
 }
 
-// All lines of the table, in their order.
-pub(crate) fn opening_answer(n: u8, p: u8, numbers: &[u32], room: usize) -> Result<(), Refusal>
-    ensures { answered result ≡ opening_answer n p numbers.now room }
+// The list, where no line of the table refuses its opening. They are asked in their order.
+pub(crate) fn accepted<'a>(
+    n: u8,
+    p: u8,
+    numbers: &'a [u32],
+    room: usize,
+) -> Result<Given<'a>, Refusal>
+    ensures answer { answered result ≡ opening_answer n p numbers.now room }
+    ensures given { IfOk result (λ given. IsGiven given n p numbers.now) }
 {
     if !sizes_in_range(n, p) {
         return Err(Refusal::HeadWrong);
     }
-    if numbers.len() != given_place(n, p) {
+    if numbers.len() != usize::from(p) * pile_size(n) {
         return Err(Refusal::LengthWrong);
     }
-    if !numbers_rise(numbers, n, p) {
+    let given = Given {
+        numbers,
+        desks: n,
+        piles: p,
+    };
+    if !numbers_rise(&given) {
         return Err(Refusal::ContentsWrong);
     }
-    openings_answer(numbers, n, p)?;
+    openings_answer(&given)?;
     if room < book_length(n, p) {
         return Err(Refusal::BufferShort);
     }
-    Ok(())
+    Ok(given)
 }

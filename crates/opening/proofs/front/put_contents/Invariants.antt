@@ -4,4 +4,4 @@ use Rattle.opening.proofs.Opened.{entry}
 use Rattle.opening.proofs.front.put_contents.Given as goal
 
 abbrev pub invariant-loop-k : goal.invariant-loop-k
-invariant-loop-k l = Written l.initial.out 4 l.p (entry l.n l.p l.numbers) l.k l.out
+invariant-loop-k l = Written l.initial.out 4 l.given.piles (entry l.given) l.k l.out

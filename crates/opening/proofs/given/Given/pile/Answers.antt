@@ -1,18 +1,19 @@
--- `given_pile` makes a fresh record of the pile's numbers, which is the pile itself since its tallies are 0.
+-- `pile` makes a fresh record of the pile's numbers, which is the pile itself since its tallies are 0.
 use mathlib.Core.Path.{refl, sym, ◌∙◌}
 use Rattle.rules.specs.Opening.{given_pile}
 use Rattle.rules.proofs.Record.Fresh.{fresh_answer_lem, fresh_record_lem}
 use Rattle.opening.proofs.Done.{if_done}
 use Rattle.opening.proofs.GivenList.{given_at}
-use Rattle.opening.proofs.given.given_pile.Goals as goal
+use Rattle.opening.proofs.given.Given.pile.Goals as goal
 
 pub returns : goal.returns
 unfolding given_pile
 returns c =
-    let number = given_at c.args.n c.args.k c.given_place-at.ensures c.args.numbers.now in
+    let g = c.args.self.now in
+    let number = given_at g.desks c.args.k c.place-at.ensures g.numbers.now in
     let fresh = rw (number 1, number 2) at c.fresh.ensures in
-    let shares = c.given_shares-shares.ensures in
+    let shares = c.shares-shares.ensures in
     record {
-      answer = fresh.answer ∙ fresh_answer_lem _ _ (λ s i. refl) (λ s i j. refl) shares c.requires.desks_least c.requires.in_list.desks_most;
+      answer = fresh.answer ∙ fresh_answer_lem _ _ (λ s i. refl) (λ s i j. refl) shares g.desks_least g.desks_most;
       pile = if_done c.fresh.result (λ x z is. is ∙ fresh_record_lem _ _ (λ s i. refl) (λ s i j. refl) shares (sym fresh.answer ∙ z)) fresh.pile;
     }
