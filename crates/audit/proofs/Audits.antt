@@ -16,8 +16,7 @@ use Rattle.rules.specs.Layout.{desk_limit, pile_limit, body_length, body_view}
 use Rattle.rules.proofs.Loops.Logic.{and_left, and_left_fails, and_right_fails, in_range}
 use Rattle.rules.proofs.Loops.Refusals.{when_not_done, own_refusal, or_else_passes, or_else_first, or_else_rest, none_met, first_stops, first_next}
 use Rattle.rules.proofs.Loops.Ranges.{piece_within}
-use Rattle.layout.specs.Inner.{BodyWithin, first_body, rest}
-use Rattle.layout.proofs.Views.{view_from}
+use Rattle.layout.specs.Inner.{BodyWithin}
 use Rattle.audit.specs.Audits.{body_after, shape_answer, bodies_answer}
 
 -- the lines of the table for the shape
@@ -54,10 +53,10 @@ module _ (n p from : ℕ) (b : List ℕ) where
   answer_of k = pile_answer n (body_after n b from k)
 
   -- the answer of the body at a position, where that is body k
-  body_is : {m at : ℕ} (k : ℕ) → at ≡ from + k * body_length n → m ≡ pile_answer n (first_body n (rest at b)) → m ≡ answer_of k
-  body_is {at = at} k place is = is ∙ ap (pile_answer n) (view_from n b at) ∙ ap (λ (x : ℕ). pile_answer n (body_view n b x)) place
+  body_is : {m at : ℕ} (k : ℕ) → at ≡ from + k * body_length n → m ≡ pile_answer n (body_view n b at) → m ≡ answer_of k
+  body_is {at = at} k place is = is ∙ ap (λ (x : ℕ). pile_answer n (body_view n b x)) place
 
-  pub body_passed : {m at : ℕ} (k : ℕ) → first k answer_of ≡ 0 → at ≡ from + k * body_length n → m ≡ pile_answer n (first_body n (rest at b)) → m ≡ 0
+  pub body_passed : {m at : ℕ} (k : ℕ) → first k answer_of ≡ 0 → at ≡ from + k * body_length n → m ≡ pile_answer n (body_view n b at) → m ≡ 0
       → first (k + 1) answer_of ≡ 0
   body_passed k e place is z = first_next k answer_of e (sym (body_is k place is) ∙ z)
 
@@ -71,7 +70,7 @@ module _ (n p from : ℕ) (b : List ℕ) where
         let s = shaped n p from (length b) shape in
         record { desks_most = s.1; within = omega (arith, s.2, piece_within (body_length n) l) }
 
-    pub body_refused : {m at : ℕ} (k : ℕ) → k < p → first k answer_of ≡ 0 → at ≡ from + k * body_length n → m ≡ pile_answer n (first_body n (rest at b)) → m ≢ 0
+    pub body_refused : {m at : ℕ} (k : ℕ) → k < p → first k answer_of ≡ 0 → at ≡ from + k * body_length n → m ≡ pile_answer n (body_view n b at) → m ≢ 0
         → m ≡ bodies_answer n p from b
     unfolding bodies_answer
     body_refused k l e place at-is d =

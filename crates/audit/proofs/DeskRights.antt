@@ -1,17 +1,15 @@
 -- What is answered of one body: where it or the desk is not there, and where it is.
 -- Assumes nothing.
 use Prim.Native.Nat.{ℕ, ◌≤◌, ◌<◌}
-use mathlib.Core.Path.{◌≡◌, ap, ◌∙◌}
+use mathlib.Core.Path.{◌≡◌}
 use mathlib.Core.Bool.{true, false}
 use mathlib.Core.List.{List}
 use lib.ListN.{length}
 use borrow.Author.Tests.{lt-ltb, le-ltb}
 use Rattle.rules.specs.Loops.{◌and◌}
-use Rattle.rules.specs.Pile.{Side, Pile, rights, tonnage}
+use Rattle.rules.specs.Pile.{Side, rights, tonnage}
 use Rattle.rules.specs.Layout.{body_view}
 use Rattle.rules.proofs.Loops.Logic.{and_right_fails}
-use Rattle.layout.specs.Inner.{first_body, rest}
-use Rattle.layout.proofs.Views.{view_from}
 use Rattle.audit.specs.Audits.{body_there, rights_in, tonnage_in}
 
 module _ (s : Side) (n at : ℕ) (b : List ℕ) (i : ℕ) where
@@ -27,10 +25,6 @@ module _ (s : Side) (n at : ℕ) (b : List ℕ) (i : ℕ) where
   unfolding rights_in ◌and◌
   desk_there e l = rw (e, lt-ltb i n l)
 
-  -- as they are read
-  pub desk_read : body_there n at (length b) ≡ true → i < n → rights n (first_body n (rest at b)) s i ≡ rights_in s n at b i
-  desk_read e l = ap (λ (p : Pile). rights n p s i) (view_from n b at) ∙ desk_there e l
-
 module _ (n at : ℕ) (b : List ℕ) where
   pub no_tonnage : body_there n at (length b) ≡ false → 0 ≡ tonnage_in n at b
   unfolding tonnage_in
@@ -39,6 +33,3 @@ module _ (n at : ℕ) (b : List ℕ) where
   pub tonnage_there : body_there n at (length b) ≡ true → tonnage n (body_view n b at) ≡ tonnage_in n at b
   unfolding tonnage_in
   tonnage_there e = rw e
-
-  pub tonnage_read : body_there n at (length b) ≡ true → tonnage n (first_body n (rest at b)) ≡ tonnage_in n at b
-  tonnage_read e = ap (tonnage n) (view_from n b at) ∙ tonnage_there e

@@ -5,7 +5,6 @@ use native.Mathlib.Omega.{arith}
 use mathlib.Core.Path.{◌≡◌, ◌∙◌}
 use mathlib.Core.Logic.{◌≢◌, ⊎_elim}
 use mathlib.Core.Bool.{Bool, true, false}
-use mathlib.Core.List.{List}
 use lib.Dec.{leb, eqb}
 use borrow.Author.Tests.{le-leb, eqb-true, eq-eqb}
 use Rattle.rules.specs.Loops.{◌and◌, sum, every}
@@ -14,7 +13,8 @@ use Rattle.rules.specs.Refusals.{◌when◌, ◌or_else◌}
 use Rattle.rules.specs.Pile.{Side, draw, tip, Pile, credit, tally_limit, lawful, opening_lawful, tallies_lawful, pile_answer}
 use Rattle.rules.specs.Layout.{columns, column, cell_at}
 use Rattle.rules.proofs.File.Body.{by_column, column_below}
-use Rattle.layout.specs.Inner.{first_body}
+use Rattle.audit.specs.declared.body.Body.{Body}
+use Rattle.audit.specs.Inner.{pile_of, row_small}
 use Rattle.rules.proofs.Loops.Logic.{same, decided, and_left, and_right, and_both}
 use Rattle.rules.proofs.Loops.Every.{every_at, every_all, every_cong}
 use Rattle.rules.proofs.Loops.Sums.{sum_cong, sum_zero, term_le}
@@ -83,16 +83,19 @@ module _ (n : ℕ) (p : Pile) where
   unfolding pile_answer ◌when◌ ◌or_else◌
   answer_0 o t e = rw (o, t, e)
 
-module _ (n : ℕ) (b : List ℕ) where
+module _ (body : Body) where
+  abbrev n : ℕ
+  n = body.n
+
   abbrev P : Pile
-  P = first_body n b
+  P = pile_of body
 
   -- is a number of the row of desk i within the limit of a tally
   abbrev small : ℕ → ℕ → Bool
-  small i c = leb (number 4 b (cell_at n (suc i) c)) tally_limit
+  small i c = leb (number 4 body.bytes.now (cell_at n (suc i) c)) tally_limit
 
   -- where no desk gave itself anything, these numbers' limits are all that is left of the tests on the tallies
-  pub read_lawful : own_gives n P ≡ 0 → every n (λ i. every (columns n) (small i)) ≡ every n (tallies_lawful n P)
+  pub read_lawful : own_gives n P ≡ 0 → every n (row_small body) ≡ every n (tallies_lawful n P)
   read_lawful z =
       every_cong n
       (λ i l. same _ _ (λ e. row_passes n P z i l (earned i e) (given i e)) (λ e. every_all (columns n) (number_small i e)))

@@ -1,28 +1,33 @@
 -- What the functions inside the crate ask and promise of one body, which the bytes start with: no promise to a caller is made in these words.
 -- Assumes nothing.
-use Rattle.std.specs.Prelude.{ℕ, ◌+◌, ◌*◌, ◌≤◌, ◌<◌, ◌≡◌, List, get_or}
-use Rattle.rules.specs.Loops.{sum}
-use Rattle.rules.specs.Pile.{Side, Pile}
-use Rattle.rules.specs.Layout.{columns}
-use Rattle.layout.specs.Inner.{BodyWithin}
+use Rattle.std.specs.Prelude.{ℕ, suc, ◌+◌, ◌*◌, ◌≤◌, ◌<◌, ◌≡◌, Bool, List, get_or, leb}
+use Rattle.rules.specs.Loops.{sum, every}
+use Rattle.rules.specs.Numbers.{number}
+use Rattle.rules.specs.Pile.{Side, draw, tip, Pile, credit, tally_limit}
+use Rattle.rules.specs.Layout.{columns, cell_at}
+use Rattle.layout.specs.Inner.{first_body}
+use Rattle.audit.specs.declared.body.Body.{Body}
 use Rattle.audit.specs.declared.totals.SideTotals.{SideTotals}
 
--- a row and a column of a body of n desks
-pub record CellWithin (n row column : ℕ) (b : List ℕ) : Type 0 where
-  pub body : BodyWithin n 0 b
-  pub row_most : row ≤ n
-  pub column_below : column < columns n
+-- the pile that a body is of
+abbrev pub pile_of : Body → Pile
+pile_of b = first_body b.n b.bytes.now
+
+-- all that the desks gave themselves, and all credits of both sides
+abbrev pub own_gives : Body → ℕ
+own_gives b = sum b.n (λ i. (pile_of b).give draw i i + (pile_of b).give tip i i)
+
+abbrev pub all_credits : Body → ℕ
+all_credits b = sum b.n (λ i. credit b.n (pile_of b) draw i + credit b.n (pile_of b) tip i)
+
+-- is each number in the row of desk i within the limit of a tally
+abbrev pub row_small : Body → ℕ → Bool
+row_small b i = every (columns b.n) (λ c. leb (number 4 b.bytes.now (cell_at b.n (suc i) c)) tally_limit)
 
 -- totals of which n are what a function gives for their place
 pub record SharesSet (n : ℕ) (share : ℕ → ℕ) (totals : List ℕ) : Type 0 where
   pub set_to : (j : ℕ) → j < n → get_or totals j 0 ≡ share j
   pub most : (j : ℕ) → j < n → get_or totals j 0 ≤ 4294967296
-
--- totals of which n have room for a number of a row
-pub record RowFits (n row : ℕ) (b totals : List ℕ) : Type 0 where
-  pub body : BodyWithin n 0 b
-  pub row_most : row ≤ n
-  pub room : (j : ℕ) → j < n → get_or totals j 0 ≤ 1000000000000
 
 -- the number for each of n places is added to the total there
 pub record RowAdded (n : ℕ) (given : ℕ → ℕ) (before after : List ℕ) : Type 0 where

@@ -7,12 +7,10 @@ ghost use Rattle.rules.specs.Record.{padded};
 ghost use Rattle.audit.specs.Audits.{rights_in, account_answer, account_number, account_rights};
 ghost use Rattle.refusal.specs.Answers.{answered};
 
-use crate::cells::cell;
+use crate::body::Body;
 use crate::judge::body_answer;
-use crate::rights::body_there;
 use crate::totals::Totals;
 use crate::{rights_in, tonnage_in};
-use layout::cells::earned_column;
 use layout::lengths::body_length;
 use layout::limits::DESKS;
 use refusal::Refusal;
@@ -34,10 +32,10 @@ fn account_answer(bytes: &[u8], at: usize, n: u8) -> Result<(), Refusal>
     if body_length(n) == 0 {
         return Err(Refusal::HeadWrong);
     }
-    if !body_there(bytes.len(), at, n) {
+    let Some(body) = Body::of(bytes, at, n) else {
         return Err(Refusal::LengthWrong);
-    }
-    body_answer(&bytes[at..], n, &mut Totals::new())
+    };
+    body_answer(body, &mut Totals::new())
 }
 
 // The rights of a side of n desks, 0 for draw, any other for tip; 0 past n.
@@ -64,10 +62,10 @@ pub fn account_of(bytes: &[u8], at: usize, n: u8) -> Result<Account, Refusal>
     account_answer(bytes, at, n)?;
     let draw = side_rights(bytes, at, n, 0);
     let tip = side_rights(bytes, at, n, 1);
-    let body = &bytes[at..];
+    let body = Body::at(bytes, at, n);
     Ok(Account {
-        floor: cell(body, n, 0, earned_column(0)) as u32,
-        top: cell(body, n, 0, earned_column(1)) as u32,
+        floor: body.bound(0) as u32,
+        top: body.bound(1) as u32,
         tonnage: tonnage_in(bytes, at, n) as u32,
         draw,
         tip,

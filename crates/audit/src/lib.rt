@@ -2,7 +2,7 @@
 #![tactic(auto)]
 
 pub mod accounts;
-mod cells;
+mod body;
 mod judge;
 mod rights;
 mod shares;
@@ -14,13 +14,12 @@ ghost use Rattle.rules.specs.Pile.{side_of};
 ghost use Rattle.audit.specs.Audits.{shape_answer, bodies_answer, rights_in, tonnage_in};
 ghost use Rattle.refusal.specs.Answers.{answered};
 
-use cells::cell;
+use body::Body;
 use judge::body_answer;
-use layout::cells::{earned_column, side_column};
 use layout::lengths::body_length;
 use layout::limits::PILES;
 use refusal::Refusal;
-use rights::{body_there, left_of};
+use rights::left_of;
 use totals::Totals;
 
 // 2 for sizes, 3 where there are more or less bytes than p bodies from a position on.
@@ -47,7 +46,7 @@ pub fn check_bodies(bytes: &[u8], from: usize, n: u8, p: usize) -> Result<(), Re
     let mut totals = Totals::new();
     for k in 0..p {
         let at = from + k * size;
-        body_answer(&bytes[at..], n, &mut totals)?;
+        body_answer(Body::at(bytes, at, n), &mut totals)?;
     }
     Ok(())
 }
@@ -57,10 +56,13 @@ pub fn check_bodies(bytes: &[u8], from: usize, n: u8, p: usize) -> Result<(), Re
 pub fn rights_in(bytes: &[u8], at: usize, n: u8, side: u8, desk: u8) -> u64
     ensures { result ≡ rights_in (side_of side) n at bytes.now desk }
 {
-    if n <= desk || !body_there(bytes.len(), at, n) {
+    if n <= desk {
         return 0;
     }
-    left_of(&bytes[at..], n, desk, side)
+    let Some(body) = Body::of(bytes, at, n) else {
+        return 0;
+    };
+    left_of(body, desk, side)
 }
 
 // What the tonnage comes to in the body at a position. The body is not judged: where more was drawn than it ever had, as in no lawful body, that is 0. It is 0
@@ -68,15 +70,14 @@ pub fn rights_in(bytes: &[u8], at: usize, n: u8, side: u8, desk: u8) -> u64
 pub fn tonnage_in(bytes: &[u8], at: usize, n: u8) -> u64
     ensures { result ≡ tonnage_in n at bytes.now }
 {
-    if !body_there(bytes.len(), at, n) {
+    let Some(body) = Body::of(bytes, at, n) else {
         return 0;
-    }
-    let body = &bytes[at..];
-    let mut had = cell(body, n, 0, earned_column(0));
+    };
+    let mut had = body.bound(0);
     let mut drawn: u64 = 0;
-    for i in 0..n {
-        had = had + cell(body, n, 0, side_column(n, 0, i)) + cell(body, n, i + 1, earned_column(0));
-        drawn = drawn + cell(body, n, i + 1, earned_column(1));
+    for i in 0..body.n {
+        had = had + body.share(0, i) + body.earned(0, i);
+        drawn = drawn + body.earned(1, i);
     }
     had.saturating_sub(drawn)
 }

@@ -1,16 +1,17 @@
 -- `check_bodies` asks one body after the other, and stops at the first that is refused.
 use Prim.Native.Nat.{ℕ, ◌+◌, ◌*◌}
 use native.Mathlib.Omega.{arith}
-use mathlib.Core.Path.{◌≡◌, refl, ap, sym, ◌∙◌}
+use mathlib.Core.Path.{◌≡◌, refl, ap, ap₂, sym, ◌∙◌}
 use Rattle.refusal.proofs.Refused.{number_is_not_0, handed_on}
 use Rattle.rules.specs.Refusals.{first}
-use Rattle.rules.specs.Layout.{body_length}
+use Rattle.rules.specs.Pile.{pile_answer}
+use Rattle.rules.specs.Layout.{body_length, body_view}
 use Rattle.rules.proofs.File.BodySize.{size_in_range}
 use Rattle.layout.specs.Inner.{BodyWithin}
-use Rattle.layout.proofs.Views.{within_from}
+use Rattle.audit.specs.Inner.{pile_of}
 use Rattle.audit.proofs.Audits.{shaped, shape_refused, body_in_lem, body_passed, body_refused, none_refused}
 use Rattle.audit.proofs.check_bodies.Goals as goal
-use Rattle.audit.proofs.check_bodies.Goals.{In-loop-k}
+use Rattle.audit.proofs.check_bodies.Goals.{In-loop-k, After-at}
 
 -- where the body of this turn stands, and that it lies within the bytes
 module _ (c : In-loop-k) where
@@ -41,14 +42,12 @@ overflow_mul-at c = let here = (goal.at.overflow_mul-at c).In-loop-k in omega (a
 pub overflow_add-at : goal.overflow_add-at
 overflow_add-at c = let here = (goal.at.overflow_add-at c).In-loop-k in omega (arith, (within here).within, c.well_formed)
 
-pub slice_bounds-body_answer-count : goal.slice_bounds-body_answer-count
-slice_bounds-body_answer-count c = omega (arith, (within (goal.at.slice_bounds-body_answer-count c).In-loop-k).within)
+pub at-requires : goal.at-requires
+at-requires c = within (goal.at.at-requires c).In-loop-k
 
-pub slice_bounds-body_answer-start : goal.slice_bounds-body_answer-start
-slice_bounds-body_answer-start c = omega (arith, (within (goal.at.slice_bounds-body_answer-start c).In-loop-k).within)
-
-pub body_answer-requires : goal.body_answer-requires
-body_answer-requires c = within_from (within (goal.at.body_answer-requires c).In-loop-k)
+-- the answer of this turn is that of the body there
+answer_is : (c : After-at) → let a = c.args in pile_answer c.at.result.n (pile_of c.at.result) ≡ pile_answer a.n (body_view a.n a.bytes.now (a.from + c.loop-k.k * c.body_length-size.result))
+answer_is c = ap₂ pile_answer c.at.ensures.0 c.at.ensures.1
 
 pub returns-in_err-body_answer : goal.returns-in_err-body_answer
 returns-in_err-body_answer c =
@@ -56,12 +55,12 @@ returns-in_err-body_answer c =
     let here = (goal.at.returns-in_err-body_answer c).In-loop-k in
     handed_on _ _ c.from_residual-in_err-body_answer.ensures.1
     ∙ body_refused a.n a.p a.from a.bytes.now (sym c.in_ok-shape_answer.ensures) c.loop-k.k c.loop-k-test.true c.loop-k.invariant (place here)
-    c.in_err-body_answer.ensures (number_is_not_0 _)
+    (c.in_err-body_answer.ensures ∙ answer_is (goal.at.returns-in_err-body_answer c).After-at) (number_is_not_0 _)
 
 pub loop-k-preserved : goal.loop-k-preserved
 loop-k-preserved c =
     let a = c.args in
-    body_passed a.n a.p a.from a.bytes.now c.loop-k.k c.loop-k.invariant (place (goal.at.loop-k-preserved c).In-loop-k) c.in_ok-body_answer.ensures refl
+    body_passed a.n a.p a.from a.bytes.now c.loop-k.k c.loop-k.invariant (place (goal.at.loop-k-preserved c).In-loop-k) (c.in_ok-body_answer.ensures ∙ answer_is (goal.at.loop-k-preserved c).After-at) refl
 
 pub returns : goal.returns
 returns c =

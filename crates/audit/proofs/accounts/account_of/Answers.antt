@@ -4,21 +4,15 @@ use mathlib.Core.Path.{◌≡◌, ap, sym, ◌∙◌}
 use Prim.Native.Nat.{ℕ}
 use Rattle.std.proofs.lemmas.Result.{IfOk-from_err}
 use Rattle.refusal.proofs.Refused.{handed_on}
-use Rattle.rules.specs.Numbers.{number}
 use Rattle.rules.specs.Pile.{Pile, draw, tip}
-use Rattle.rules.specs.Layout.{cell_at}
-use Rattle.layout.specs.Inner.{BodyWithin, first_body, rest}
-use Rattle.layout.proofs.Views.{within_from, view_from}
 use Rattle.audit.specs.Audits.{account_answer, account_number}
+use Rattle.audit.specs.Inner.{pile_of}
 use Rattle.audit.proofs.OfAccount.{few_desks, body_there_lem, number_is, tonnage_is, tonnage_small, rights_small, rights_are}
 use Rattle.audit.proofs.accounts.account_of.Goals as goal
 use Rattle.audit.proofs.accounts.account_of.Goals.{In_ok-account_answer}
 
 passed : (c : In_ok-account_answer) → let a = c.args in account_answer a.n a.at a.bytes.now ≡ 0
 passed c = sym c.in_ok-account_answer.ensures
-
-within : (c : In_ok-account_answer) → let a = c.args in BodyWithin a.n a.at a.bytes.now
-within c = body_there_lem _ _ _ (passed c)
 
 pub returns-in_err-account_answer : goal.returns-in_err-account_answer
 returns-in_err-account_answer c =
@@ -38,17 +32,8 @@ side_rights-draw-requires c = (few_desks _ _ _ (passed (goal.at.side_rights-draw
 pub side_rights-tip-requires : goal.side_rights-tip-requires
 side_rights-tip-requires c = (few_desks _ _ _ (passed (goal.at.side_rights-tip-requires c).In_ok-account_answer), rights_small _ _ _ (passed (goal.at.side_rights-tip-requires c).In_ok-account_answer) tip)
 
-pub slice_bounds-body-count : goal.slice_bounds-body-count
-slice_bounds-body-count c = omega (arith, (within (goal.at.slice_bounds-body-count c).In_ok-account_answer).within)
-
-pub slice_bounds-body-start : goal.slice_bounds-body-start
-slice_bounds-body-start c = omega (arith, (within (goal.at.slice_bounds-body-start c).In_ok-account_answer).within)
-
-pub cell-requires : goal.cell-requires
-cell-requires c = record { body = within_from (within (goal.at.cell-requires c).In_ok-account_answer); row_most = omega arith; column_below = omega (arith, c.earned_column.ensures) }
-
-pub cell-requires-2 : goal.cell-requires-2
-cell-requires-2 c = record { body = within_from (within (goal.at.cell-requires-2 c).In_ok-account_answer); row_most = omega arith; column_below = omega (arith, c.earned_column-2.ensures) }
+pub at-body-requires : goal.at-body-requires
+at-body-requires c = body_there_lem _ _ _ (passed (goal.at.at-body-requires c).In_ok-account_answer)
 
 pub overflow_cast-result-3 : goal.overflow_cast-result-3
 overflow_cast-result-3 c = omega (arith, c.tonnage_in.ensures, tonnage_small _ _ _ (passed (goal.at.overflow_cast-result-3 c).In_ok-account_answer))
@@ -56,9 +41,14 @@ overflow_cast-result-3 c = omega (arith, c.tonnage_in.ensures, tonnage_small _ _
 pub returns : goal.returns
 returns c =
     let a = c.args in
-    let here = (goal.at.returns c).In_ok-account_answer in
-    let is = number_is a.n a.at a.bytes.now (passed here) in
-    let read : (f : Pile → ℕ) → f (first_body a.n (rest a.at a.bytes.now)) ≡ account_number f a.n a.at a.bytes.now
-    = λ f. ap f (view_from a.n a.bytes.now a.at) ∙ is f in
-    let column : ℕ → ℕ = λ (k : ℕ). number 4 (rest a.at a.bytes.now) (cell_at a.n 0 k) in
-    record { answer = sym (passed here); floor = c.cell.ensures.0 ∙ ap column c.earned_column.ensures ∙ read (λ p. p.floor); top = c.cell-2.ensures.0 ∙ ap column c.earned_column-2.ensures ∙ read (λ p. p.top); tonnage = c.tonnage_in.ensures ∙ tonnage_is _ _ _ (passed here); draw = c.side_rights-draw.ensures ∙ rights_are _ _ _ (passed here) draw; tip = c.side_rights-tip.ensures ∙ rights_are _ _ _ (passed here) tip }
+    let here = passed (goal.at.returns c).In_ok-account_answer in
+    let read : (f : Pile → ℕ) → f (pile_of c.at-body.result) ≡ account_number f a.n a.at a.bytes.now
+    = λ f. ap f c.at-body.ensures.1 ∙ number_is a.n a.at a.bytes.now here f in
+    record {
+      answer = sym here;
+      floor = c.bound.ensures.0 ∙ read (λ p. p.floor);
+      top = c.bound-2.ensures.0 ∙ read (λ p. p.top);
+      tonnage = c.tonnage_in.ensures ∙ tonnage_is _ _ _ here;
+      draw = c.side_rights-draw.ensures ∙ rights_are _ _ _ here draw;
+      tip = c.side_rights-tip.ensures ∙ rights_are _ _ _ here tip;
+    }

@@ -11,60 +11,62 @@ use Rattle.rules.specs.Pile.{Pile, draw, tip, credit, debit, lawful}
 use Rattle.rules.specs.Layout.{columns, row_length, cell_at}
 use Rattle.rules.proofs.File.Body as body
 use Rattle.rules.proofs.Loops.Arrays.{sum_next}
-use Rattle.layout.specs.Inner.{first_body}
+use Rattle.audit.specs.Inner.{pile_of}
 use Rattle.layout.proofs.Short.{body_most}
 use Rattle.layout.proofs.Views.{cell_within}
-use Rattle.audit.proofs.Places.{earned_is, in_row, row_after}
+use Rattle.audit.proofs.Places.{in_row_of, in_row, row_after}
 use Rattle.audit.proofs.Account.{credit_at, debit_at, cleared, kept, covered_next}
 use borrow.Author.Rules.{rules}
 use Rattle.audit.proofs.judge.balance_of.Goals as goal
 use Rattle.audit.proofs.judge.balance_of.Goals.{then-draw_credit-totals, else-draw_credit-totals, then-tip_credit-totals, else-tip_credit-totals, After-cell_at, After-cell_at-in-loop-i, After-word-drawn, At-loop-i, In-loop-i}
 
 abbrev P : After-word-drawn → Pile
-P c = let a = c.args in first_body a.n a.body.now
+P c = pile_of c.args.body
 
 -- the length of a row
-size_is : (c : At-loop-i) → c.row_length-size.result ≡ row_length c.args.n
+size_is : (c : At-loop-i) → c.row_length-size.result ≡ row_length c.args.body.n
 size_is c = c.row_length-size.ensures
 
 -- a place of the desk's row lies in the bytes, and the row ends not far behind their start
 module _ (c : In-loop-i) where
-  within : (k : ℕ) → let a = c.args in k < columns a.n → 0 + cell_at a.n (c.loop-i.i + 1) k + 4 ≤ length a.body.now
-  within k l = cell_within c.requires.body (omega arith) l
+  within : (k : ℕ) → let a = c.args in k < columns a.body.n → 0 + cell_at a.body.n (c.loop-i.i + 1) k + 4 ≤ length a.body.bytes.now
+  within k l = cell_within c.args.body.whole (omega arith) l
 
-  row_most : let a = c.args in c.loop-i.row + row_length a.n ≤ 648
+  row_most : let a = c.args in c.loop-i.row + row_length a.body.n ≤ 648
   unfolding cell_at
   row_most =
       let a = c.args in
-      omega (arith, c.loop-i.invariant.0, body.row_within a.n (c.loop-i.i + 1) (omega arith), body_most a.n c.requires.body.desks_most)
+      omega (arith, c.loop-i.invariant.0, body.row_within a.body.n (c.loop-i.i + 1) (omega arith), body_most a.body.n c.args.body.whole.desks_most)
 
   -- where the code reads
-  place : {x : ℕ} (k : ℕ) → let a = c.args in x ≡ cell_at a.n 0 k → c.loop-i.row + x ≡ cell_at a.n (c.loop-i.i + 1) k
+  place : {x : ℕ} (k : ℕ) → let a = c.args in x ≡ cell_at a.body.n 0 k → c.loop-i.row + x ≡ cell_at a.body.n (c.loop-i.i + 1) k
   place k e =
       let a = c.args in
-      ap (λ (y : ℕ). c.loop-i.row + y) e ∙ in_row a.n c.loop-i.i k c.loop-i.invariant.0
+      ap (λ (y : ℕ). c.loop-i.row + y) e ∙ in_row a.body.n c.loop-i.i k c.loop-i.invariant.0
 
 -- the place of what the desk tipped, and of what it drew
-tip_place : (c : After-cell_at) → (c.loop-i.row + c.cell_at.result ≡ cell_at c.args.n (c.loop-i.i + 1) c.earned_column.result)
-    × (c.earned_column.result < columns c.args.n)
+tip_place : (c : After-cell_at) → (c.loop-i.row + c.cell_at.result ≡ cell_at c.args.body.n (c.loop-i.i + 1) c.earned_column.result)
+    × (c.earned_column.result < columns c.args.body.n)
 tip_place c = (place (goal.at.After-cell_at c).In-loop-i _ c.cell_at.ensures, omega (arith, c.earned_column.ensures))
 
-drawn_place : (c : After-cell_at-in-loop-i) → (c.loop-i.row + c.cell_at-in-loop-i.result ≡ cell_at c.args.n (c.loop-i.i + 1) c.earned_column-in-loop-i.result)
-    × (c.earned_column-in-loop-i.result < columns c.args.n)
+drawn_place : (c : After-cell_at-in-loop-i) → (c.loop-i.row + c.cell_at-in-loop-i.result ≡ cell_at c.args.body.n (c.loop-i.i + 1) c.earned_column-in-loop-i.result)
+    × (c.earned_column-in-loop-i.result < columns c.args.body.n)
 drawn_place c = (place (goal.at.After-cell_at-in-loop-i c).In-loop-i _ c.cell_at-in-loop-i.ensures, omega (arith, c.earned_column-in-loop-i.ensures))
 
 -- what the desk drew and what it tipped
 drawn : (c : After-word-drawn) → c.word-drawn.result ≡ (P c).earned tip c.loop-i.i
 drawn c =
     let a = c.args in
-    earned_is a.n a.body.now tip c.loop-i.i (c.word-drawn.ensures.0 ∙ ap (number 4 a.body.now) (drawn_place (goal.at.After-word-drawn c).After-cell_at-in-loop-i).0)
-    c.earned_column-in-loop-i.ensures
+    in_row_of a.body.n a.body.bytes.now c.loop-i.i 1
+    (c.word-drawn.ensures.0 ∙ ap (number 4 a.body.bytes.now)
+    ((drawn_place (goal.at.After-word-drawn c).After-cell_at-in-loop-i).0 ∙ ap (cell_at a.body.n (c.loop-i.i + 1)) c.earned_column-in-loop-i.ensures))
 
 tipped : (c : After-word-drawn) → c.word-tipped.result ≡ (P c).earned draw c.loop-i.i
 tipped c =
     let a = c.args in
-    earned_is a.n a.body.now draw c.loop-i.i (c.word-tipped.ensures.0 ∙ ap (number 4 a.body.now) (tip_place (goal.at.After-word-drawn c).After-cell_at).0)
-    c.earned_column.ensures
+    in_row_of a.body.n a.body.bytes.now c.loop-i.i 0
+    (c.word-tipped.ensures.0 ∙ ap (number 4 a.body.bytes.now)
+    ((tip_place (goal.at.After-word-drawn c).After-cell_at).0 ∙ ap (cell_at a.body.n (c.loop-i.i + 1)) c.earned_column.ensures))
 
 pub loop-i-init : goal.loop-i-init
 unfolding every sum
@@ -88,11 +90,11 @@ overflow_add-row-in-loop-i-2 c =
 
 pub loop-i-preserved : goal.loop-i-preserved
 loop-i-preserved c =
-    let i<n : c.loop-i.i < c.args.n = omega arith in
+    let i<n : c.loop-i.i < c.args.body.n = omega arith in
     let draws = credit_at c.requires.draws c.loop-i.i i<n (tipped (goal.at.loop-i-preserved c).After-word-drawn) in
     let tips = credit_at c.requires.tips c.loop-i.i i<n (drawn (goal.at.loop-i-preserved c).After-word-drawn) in (
-      omega (arith, size_is (goal.at.loop-i-preserved c).At-loop-i, row_after c.args.n c.loop-i.i c.loop-i.invariant.0),
-      omega (arith, c.requires.body.desks_most, c.requires.draws.received_most c.loop-i.i i<n, c.requires.tips.received_most c.loop-i.i i<n),
+      omega (arith, size_is (goal.at.loop-i-preserved c).At-loop-i, row_after c.args.body.n c.loop-i.i c.loop-i.invariant.0),
+      omega (arith, c.args.body.whole.desks_most, c.requires.draws.received_most c.loop-i.i i<n, c.requires.tips.received_most c.loop-i.i i<n),
       covered_next (λ k s. leb (debit _ (P (goal.at.loop-i-preserved c).After-word-drawn) s k) (credit _ (P (goal.at.loop-i-preserved c).After-word-drawn) s k)) c.loop-i.i {one = c.if-draw_credit-totals.covered} c.loop-i.invariant.2
           (rw (← draws, ← debit_at c.requires.draws c.loop-i.i i<n (drawn (goal.at.loop-i-preserved c).After-word-drawn))
           (elim c.if-draw_credit-totals.branch [
@@ -110,5 +112,5 @@ loop-i-preserved c =
 pub returns-clause-covered : goal.returns-clause-covered
 unfolding lawful
 returns-clause-covered c =
-    let done : c.loop-i.i ≡ c.args.n = omega arith in
+    let done : c.loop-i.i ≡ c.args.body.n = omega arith in
     rw done at c.loop-i.invariant.2

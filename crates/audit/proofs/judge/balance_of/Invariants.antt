@@ -5,12 +5,12 @@ use mathlib.Core.Path.{◌≡◌}
 use Rattle.rules.specs.Loops.{sum, every}
 use Rattle.rules.specs.Pile.{draw, tip, credit}
 use Rattle.rules.specs.Layout.{cell_at}
-use Rattle.layout.specs.Inner.{first_body}
+use Rattle.audit.specs.Inner.{pile_of}
 use Rattle.audit.proofs.Account.{covers}
 use Rattle.audit.proofs.judge.balance_of.Given as goal
 
 abbrev pub invariant-loop-i : goal.invariant-loop-i
 invariant-loop-i l =
-    let p = first_body l.n l.body in
-    (l.row ≡ cell_at l.n (l.i + 1) 0) × (l.credits ≤ l.i * 200000000000) × (l.covered ≡ every l.i (covers l.n p))
-    × (l.credits ≡ sum l.i (λ k. credit l.n p draw k + credit l.n p tip k))
+    let p = pile_of l.body in
+    (l.row ≡ cell_at l.body.n (l.i + 1) 0) × (l.credits ≤ l.i * 200000000000) × (l.covered ≡ every l.i (covers l.body.n p))
+    × (l.credits ≡ sum l.i (λ k. credit l.body.n p draw k + credit l.body.n p tip k))

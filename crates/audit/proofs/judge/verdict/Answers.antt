@@ -4,16 +4,16 @@ use mathlib.Core.Bool.{true}
 use Rattle.rules.specs.Loops.{every}
 use Rattle.rules.specs.Pile.{opening_lawful, tallies_lawful}
 use Rattle.rules.proofs.Loops.Logic.{holds, fails}
-use Rattle.layout.specs.Inner.{first_body}
+use Rattle.audit.specs.Inner.{pile_of}
 use Rattle.audit.proofs.Verdict.{answer_5, answer_6, answer_7, answer_0}
 use Rattle.audit.proofs.judge.verdict.Goals as goal
 use Rattle.audit.proofs.judge.verdict.Goals.{Else-not-opening, Else-not-tallies_sound}
 
 -- what each line that was passed tells
-opens : (c : Else-not-opening) → opening_lawful c.args.n (first_body c.args.n c.args.body.now) ≡ true
+opens : (c : Else-not-opening) → opening_lawful c.args.body.n (pile_of c.args.body) ≡ true
 opens c = sym c.requires.opening ∙ c.if-not-opening.false
 
-within : (c : Else-not-tallies_sound) → every c.args.n (tallies_lawful c.args.n (first_body c.args.n c.args.body.now)) ≡ true
+within : (c : Else-not-tallies_sound) → every c.args.body.n (tallies_lawful c.args.body.n (pile_of c.args.body)) ≡ true
 within c = sym c.tallies_sound.ensures ∙ c.if-not-tallies_sound.false
 
 pub returns-then-not-opening : goal.returns-then-not-opening

@@ -1,4 +1,5 @@
 -- `row_within` looks at one number of the row after the other, and stops at the first that is above the limit.
+use Prim.Native.Nat.{suc}
 use native.Mathlib.Omega.{arith}
 use mathlib.Core.Path.{◌≡◌, refl, sym}
 use borrow.Author.Tests.{le-leb, lt-leb}
@@ -6,13 +7,14 @@ use Rattle.rules.specs.Loops.{every}
 use Rattle.rules.specs.Numbers.{number}
 use Rattle.rules.specs.Layout.{columns, cell_at}
 use Rattle.rules.proofs.Loops.Every.{every_next, every_stops}
+use Rattle.audit.proofs.Places.{in_row_of}
 use Rattle.audit.proofs.tallies.row_within.Goals as goal
 use Rattle.audit.proofs.tallies.row_within.Goals.{After-cell}
 
 -- what this turn reads
 number_is : (c : After-cell) → let a = c.args in
-    c.cell.result ≡ number 4 a.body.now (cell_at a.n a.row c.loop-c.c)
-number_is c = c.cell.ensures.0
+    c.cell.result ≡ number 4 a.body.bytes.now (cell_at a.body.n (suc a.i) c.loop-c.c)
+number_is c = let a = c.args in in_row_of a.body.n a.body.bytes.now a.i c.loop-c.c c.cell.ensures.0
 
 pub loop-c-init : goal.loop-c-init
 unfolding every
@@ -20,7 +22,7 @@ loop-c-init c = refl
 
 pub cell-requires : goal.cell-requires
 cell-requires c =
-    record { body = c.requires.0; row_most = c.requires.1; column_below = omega (arith, c.columns_of-all.ensures, c.loop-c-test.true) }
+    (omega (arith, c.requires), omega (arith, c.columns_of-all.ensures, c.loop-c-test.true))
 
 pub returns-then-cell-gt-TALLY_LIMIT : goal.returns-then-cell-gt-TALLY_LIMIT
 returns-then-cell-gt-TALLY_LIMIT c =
@@ -32,5 +34,5 @@ loop-c-preserved c =
 
 pub returns : goal.returns
 returns c =
-    let done : c.loop-c.c ≡ columns c.args.n = omega (arith, c.columns_of-all.ensures) in
+    let done : c.loop-c.c ≡ columns c.args.body.n = omega (arith, c.columns_of-all.ensures) in
     sym (rw done at c.loop-c.invariant)
