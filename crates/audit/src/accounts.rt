@@ -38,7 +38,7 @@ fn account_answer(bytes: &[u8], at: usize, n: u8) -> Result<(), Refusal>
     body_answer(body, &mut Totals::new())
 }
 
-// The rights of a side of n desks, 0 for draw, any other for tip; 0 past n.
+// The rights of a side of n desks, 0 for draw, any other for tip as in `rights_in`; 0 past n.
 fn side_rights(bytes: &[u8], at: usize, n: u8, side: u8) -> [u32; DESKS]
     requires { (n ≤ desk_limit) × ((i : ℕ) → i < n → rights_in (side_of side) n at bytes.now i ≤ top_limit) }
     ensures { result ≡ list desk_limit (padded n (rights_in (side_of side) n at bytes.now)) }

@@ -73,7 +73,7 @@ impl<'a> Body<'a> {
         self.cell(0, earned_column(side))
     }
 
-    // Desk j's share of a side, 0 for draw, any other for tip.
+    // Desk j's share of a side, 0 for draw, any other for tip: a number, since `side_column` answers any.
     pub(crate) fn share(self, side: u8, j: u8) -> u64
         requires { j < self.n }
         ensures { (result ≡ (pile_of self.entry).share (side_of side) j) × (result < 4294967296) }

@@ -51,7 +51,7 @@ pub fn check_bodies(bytes: &[u8], from: usize, n: u8, p: usize) -> Result<(), Re
     Ok(())
 }
 
-// What a desk's rights of a side come to in the body at a position, 0 for draw, any other for tip. The body is not judged: where the desk's debit is above its
+// What a desk's rights of a side come to in the body at a position, 0 for draw, any other for tip, for any number. The body is not judged: where the desk's debit is above its
 // credit, as in no lawful body, that is 0. It is 0 too where there is no such body or desk.
 pub fn rights_in(bytes: &[u8], at: usize, n: u8, side: u8, desk: u8) -> u64
     ensures { result ≡ rights_in (side_of side) n at bytes.now desk }

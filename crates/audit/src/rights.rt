@@ -15,7 +15,7 @@ pub(crate) fn body_there(length: usize, at: usize, n: u8) -> bool
     size != 0 && at <= length && size <= length - at
 }
 
-// The rights of desk i, 0 for draw, any other for tip: its share, what it earned and what it got, less what it gave and spent.
+// The rights of desk i, 0 for draw, any other for tip as in `rights_in`: its share, what it earned and what it got, less what it gave and spent.
 pub(crate) fn left_of(body: Body<'_>, i: u8, side: u8) -> u64
     requires { i < body.n }
     ensures { result ≡ rights body.entry.n (pile_of body.entry) (side_of side) i }

@@ -1,4 +1,4 @@
-// Rights of a desk. The side is a parameter: 0 for draw, any other for tip.
+// Rights of a desk. The side is a parameter: 0 for draw, any other for tip. It is a number, since `rights_in` and `side_column` answer any.
 ghost use Rattle.std.specs.Prelude.{◌≡◌};
 ghost use Rattle.rules.specs.Pile.{rights, side_of};
 ghost use Rattle.rules.specs.Layout.{desks, body_view};

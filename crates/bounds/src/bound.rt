@@ -1,5 +1,5 @@
 // The bound that a desk's rights of a side keep: nobody else can draw what it may draw, nor fill the space that it may fill. The side is a parameter:
-// 0 for draw, any other for tip.
+// 0 for draw, any other for tip. It is a number, since `rights_in` and `side_column` answer any.
 ghost use Rattle.std.specs.Prelude.{◌≡◌, ℕ, ◌+◌, ◌≤◌, ◌<◌, get_or};
 ghost use Rattle.rules.specs.Loops.{list};
 ghost use Rattle.rules.specs.Pile.{side_of};

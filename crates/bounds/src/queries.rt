@@ -1,4 +1,4 @@
-// The bound of one desk, asked of a record and of a book. The side is a parameter: 0 for draw, any other for tip.
+// The bound of one desk, asked of a record and of a book. The side is a parameter: 0 for draw, any other for tip. It is a number, since `rights_in` and `side_column` answer any.
 ghost use Rattle.std.specs.Prelude.{◌≡◌};
 ghost use Rattle.rules.specs.Pile.{side_of};
 ghost use Rattle.rules.specs.Layout.{desks, body_view};

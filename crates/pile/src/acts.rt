@@ -1,4 +1,4 @@
-// The acts on a record. Tip and draw spend rights of a side, the two gives give them: the side is a parameter, 0 for draw, any other for tip.
+// The acts on a record. Tip and draw spend rights of a side, the two gives give them: the side is a parameter, 0 for draw, any other for tip. It is a number, since `rights_in` and `side_column` answer any.
 ghost use Rattle.std.specs.Prelude.{◌≡◌, ◌<◌, IfOk};
 ghost use Rattle.std.specs.Result.{result_unwrap_or};
 ghost use Rattle.rules.specs.Pile.{side_of};

@@ -1,4 +1,4 @@
-// Rights and tonnage of a record, asked of its body. The side is a parameter: 0 for draw, any other for tip.
+// Rights and tonnage of a record, asked of its body. The side is a parameter: 0 for draw, any other for tip. It is a number, since `rights_in` and `side_column` answer any.
 ghost use Rattle.std.specs.Prelude.{◌≡◌, IfOk};
 ghost use Rattle.rules.specs.Pile.{side_of, rights, tonnage};
 ghost use Rattle.rules.specs.Record.{record_view, record_answer, record_desk_answer};
