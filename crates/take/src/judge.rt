@@ -1,5 +1,5 @@
 // Whether a copy is taken: the lines of document 01's table for a take, in their order.
-ghost use Rattle.std.specs.Prelude.{◌≡◌, suc, ◌+◌, ◌*◌, ◌≤◌, eqb, Ok, IfOk, OnOk};
+ghost use Rattle.std.specs.Prelude.{◌≡◌, false, suc, ◌+◌, ◌*◌, ◌≤◌, replicate, eqb, Ok, IfOk, OnOk};
 ghost use Rattle.rules.specs.Loops.{◌and◌, every};
 ghost use Rattle.rules.specs.Refusals.{first};
 ghost use Rattle.rules.specs.Numbers.{part};
@@ -12,9 +12,9 @@ ghost use Rattle.layout.specs.Positions.{as_head};
 ghost use Rattle.take.specs.Inner.{RowInBoth, Alongside, opening_part, compared_at, Marked, AllMarked, DesksAhead, PilesAhead};
 
 use book::check;
-use layout::contents::pile_number;
-use layout::head::{Head, body_at, front_length, head_of};
-use layout::lengths::{ROWS, row_length};
+use layout::contents::entry_number;
+use layout::head::{ENTRY, Head, entry_at, front_length, head_of};
+use layout::lengths::{ROWS, body_length, row_length};
 use refusal::Refusal;
 use rows::{Comparison, compare};
 
@@ -67,19 +67,25 @@ fn desks_answer(
     Ok(())
 }
 
-// The first refusal of all rows, by pile and then by desk; where there is none, the marks that say which rows are later in the copy. Rows go by their number
+// The first refusal of all rows, by pile and then by desk; where there is none, the marks say which rows are later in the copy. Rows go by their number
 // in file order, openings among them: those are alike, and not looked at again.
-fn piles_answer(own: &[u8], copy: &[u8], head: Head, desk: u8) -> Result<[bool; ROWS], Refusal>
-    requires { PilesAhead (as_head head) own.now copy.now }
+fn piles_answer(
+    own: &[u8],
+    copy: &[u8],
+    head: Head,
+    desk: u8,
+    marks: &mut [bool; ROWS],
+) -> Result<(), Refusal>
+    requires piles { PilesAhead (as_head head) own.now copy.now }
+    requires blank { marks.old ≡ replicate 288 false }
     ensures answer { answered result ≡ first head.piles (λ k. first head.desks (λ i. row_answer (eqb i desk)
         (compared_at (front_length (as_head head)) (row_length head.desks) own.now copy.now (k * suc head.desks + suc i)))) }
-    ensures marks { IfOk result (λ marks. AllMarked (as_head head) own.now copy.now marks) }
+    ensures marks { OnOk result (AllMarked (as_head head) own.now copy.now marks.new) }
 {
-    let mut marks = [false; ROWS];
     for k in 0..head.piles {
-        desks_answer(own, copy, head, k, desk, &mut marks)?;
+        desks_answer(own, copy, head, k, desk, marks)?;
     }
-    Ok(marks)
+    Ok(())
 }
 
 // Do the pile numbers and the opening rows agree, pile by pile?
@@ -88,13 +94,18 @@ fn same_piles(own: &[u8], copy: &[u8], head: Head) -> bool
     ensures { result ≡ every head.piles (λ k. eqb (pile_number own.now k) (pile_number copy.now k)
         and is_alike (compared (opening_part (as_head head) k own.now) (opening_part (as_head head) k copy.now))) }
 {
+    let size = body_length(head.desks);
     let row = row_length(head.desks);
+    // Bodies are passed one after the other, and of an entry that is a slice the number is read without a test.
+    let mut at = front_length(head);
     for k in 0..head.piles {
-        if pile_number(own, k) != pile_number(copy, k)
-            || compare_at(own, copy, body_at(head, k), row) != Comparison::Alike
+        let entry = entry_at(k);
+        if entry_number(&own[entry..entry + ENTRY]) != entry_number(&copy[entry..entry + ENTRY])
+            || compare_at(own, copy, at, row) != Comparison::Alike
         {
             return false;
         }
+        at += size;
     }
     true
 }
@@ -116,10 +127,16 @@ fn of_copy(refusal: Refusal) -> Refusal
     }
 }
 
-// All lines of the table, in their order; where none is met, the marks that say which rows are later in the copy.
-pub(crate) fn take_answer(own: &[u8], copy: &[u8], desk: u8) -> Result<[bool; ROWS], Refusal>
+// All lines of the table, in their order; where none is met, the marks say which rows are later in the copy.
+pub(crate) fn take_answer(
+    own: &[u8],
+    copy: &[u8],
+    desk: u8,
+    marks: &mut [bool; ROWS],
+) -> Result<(), Refusal>
+    requires { marks.old ≡ replicate 288 false }
     ensures answer { answered result ≡ take_answer desk own.now copy.now }
-    ensures marks { IfOk result (λ marks. AllMarked (head_of own.now) own.now copy.now marks) }
+    ensures marks { OnOk result (AllMarked (head_of own.now) own.now copy.now marks.new) }
 {
     check(own)?;
     check(copy).map_err(of_copy)?;
@@ -131,5 +148,5 @@ pub(crate) fn take_answer(own: &[u8], copy: &[u8], desk: u8) -> Result<[bool; RO
     if head.desks != other.desks || head.piles != other.piles || !same_piles(own, copy, head) {
         return Err(Refusal::OpeningDiffers);
     }
-    piles_answer(own, copy, head, desk)
+    piles_answer(own, copy, head, desk, marks)
 }

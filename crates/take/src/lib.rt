@@ -11,7 +11,7 @@ ghost use Rattle.refusal.specs.Answers.{answered};
 
 use judge::take_answer;
 use layout::head::{front_length, head_of, rows_of};
-use layout::lengths::row_length;
+use layout::lengths::{ROWS, row_length};
 use merge::{count_marks, take_rows};
 use refusal::Refusal;
 
@@ -22,10 +22,15 @@ pub fn take(own: &mut [u8], copy: &[u8], desk: u8) -> Result<u32, Refusal>
     ensures changed { IfOk result (λ changed. changed ≡ take_report desk own.old copy.now) }
     ensures book { own.new ≡ after_take desk own.old copy.now }
 {
-    let marks = take_answer(own, copy, desk)?;
+    let mut marks = [false; ROWS];
+    take_answer(own, copy, desk, &mut marks)?;
     let head = head_of(own);
     let rows = rows_of(head);
     let later = &marks[..rows];
-    take_rows(own, copy, front_length(head), row_length(head.desks), later);
-    Ok(count_marks(later))
+    let changed = count_marks(later);
+    // Where no row is later, none is gone over again.
+    if changed != 0 {
+        take_rows(own, copy, front_length(head), row_length(head.desks), later);
+    }
+    Ok(changed)
 }

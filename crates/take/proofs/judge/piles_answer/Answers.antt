@@ -10,7 +10,7 @@ use Rattle.take.proofs.judge.piles_answer.Goals as goal
 pub loop-k-init : goal.loop-k-init
 loop-k-init c =
     let none : 0 * suc c.args.head.desks ≡ 0 = omega arith in
-    (none_asked, rw none (none_marked 288))
+    (none_asked, rw (none, c.requires.blank) (none_marked 288))
 
 pub returns-in_err-desks_answer-clause-answer : goal.returns-in_err-desks_answer-clause-answer
 returns-in_err-desks_answer-clause-answer c =

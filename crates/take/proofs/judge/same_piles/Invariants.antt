@@ -7,7 +7,7 @@ use lib.Dec.{eqb}
 use Rattle.rules.specs.Loops.{◌and◌, every}
 use Rattle.rules.specs.Layout.{Head, pile_number}
 use Rattle.rules.specs.Rows.{compared, is_alike}
-use Rattle.layout.specs.Positions.{as_head}
+use Rattle.layout.specs.Positions.{as_head, body_position}
 use Rattle.take.specs.Inner.{opening_part}
 use Rattle.take.proofs.judge.same_piles.Given as goal
 
@@ -16,4 +16,4 @@ abbrev pub agree : Head → List ℕ → List ℕ → ℕ → Bool
 agree h own copy k = eqb (pile_number own k) (pile_number copy k) and is_alike (compared (opening_part h k own) (opening_part h k copy))
 
 abbrev pub invariant-loop-k : goal.invariant-loop-k
-invariant-loop-k l = every l.k (agree (as_head l.fn.head) l.own l.copy) ≡ true
+invariant-loop-k l = (l.at ≡ body_position (as_head l.fn.head) l.k) × (every l.k (agree (as_head l.fn.head) l.own l.copy) ≡ true)

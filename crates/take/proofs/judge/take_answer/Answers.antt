@@ -1,7 +1,7 @@
 -- `take_answer` asks the lines of the table in their order, and stops at the first that is met.
 use Prim.Native.Nat.{ℕ, ◌<◌}
 use mathlib.Core.Path.{◌≡◌, ap, sym, subst, ◌∙◌}
-use Rattle.std.specs.Prelude.{IfOk}
+use Rattle.std.specs.Prelude.{OnOk}
 use Rattle.rules.specs.Layout.{Head, head_of, desks, piles}
 use Rattle.rules.specs.Book.{book_answer}
 use Rattle.rules.proofs.File.Readable.{BookFacts, book_facts, book_answer_most}
@@ -89,9 +89,9 @@ returns-then-head-other-clause-answer c =
           ∙ w.if-not-same_piles.true
     ])
 
-pub piles_answer-requires : goal.piles_answer-requires
-piles_answer-requires c =
-    let at = goal.at.piles_answer-requires c in
+pub piles_answer-requires-clause-piles : goal.piles_answer-requires-clause-piles
+piles_answer-requires-clause-piles c =
+    let at = goal.at.piles_answer-requires-clause-piles c in
     let read = at.After-head_of-other in
     piles_ahead _ _ (mine at.In_ok-map_err) (theirs at.In_ok-map_err) (head_is at.After-head_of-head) (same_n read c.if-head-other.false) (same_p read c.if-head-other-2.false)
     (sym c.same_piles.ensures ∙ c.if-not-same_piles.false)
@@ -112,5 +112,5 @@ returns-clause-answer c =
 pub returns-clause-marks : goal.returns-clause-marks
 returns-clause-marks c =
     let a = c.args in
-    subst (λ (h : Head). IfOk c.piles_answer.result (λ marks. AllMarked h a.own.now a.copy.now marks))
+    subst (λ (h : Head). OnOk c.piles_answer.result (AllMarked h a.own.now a.copy.now c.piles_answer.new.marks))
     (head_is (goal.at.returns-clause-marks c).After-head_of-head) c.piles_answer.ensures.marks
