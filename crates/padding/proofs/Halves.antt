@@ -1,4 +1,4 @@
--- The two runs of a row of n desks: how many numbers stand before those of tip, and where these start.
+-- The two runs of a row of n desks: how many numbers stand before those of tip, and where these start; and where the next row starts.
 -- Assumes nothing.
 use Prim.Native.Nat.{ℕ, ◌+◌, ◌*◌, ◌≤◌}
 use native.Mathlib.Omega.{arith}
@@ -15,12 +15,12 @@ module _ (n : ℕ) {front : ℕ} (is : front ≡ column n tip 0) where
   unfolding cell_at
   tips_at e = omega (arith, e, is)
 
--- row r of the body: where its two runs start, and that they lie within the body
-module _ (n r : ℕ) (r≤n : r ≤ n) {front : ℕ} (is : front ≡ column n tip 0) where
-  pub front_within : {at : ℕ} → at ≡ cell_at n r 0 → at + front * 4 ≤ body_length n
-  unfolding cell_at row_length
-  front_within e = omega (arith, e, is, row_within n r (omega arith))
+-- row r of the body at a position lies within the bytes, and the row behind it starts where it ends
+module _ (n at r : ℕ) {to : ℕ} (here : to ≡ at + r * (8 * (n + 1))) where
+  pub row_there : {long : ℕ} → r ≤ n → at + body_length n ≤ long → to + 8 * (n + 1) ≤ long
+  unfolding row_length
+  row_there r≤n within = omega (arith, here, row_within n r (omega arith), within)
 
-  pub tips_within : {at : ℕ} → at ≡ cell_at n r front → at + n * 4 ≤ body_length n
-  unfolding cell_at row_length
-  tips_within e = omega (arith, e, is, row_within n r (omega arith))
+  pub row_behind : {size : ℕ} → size ≡ row_length n → to + size ≡ at + (r + 1) * (8 * (n + 1))
+  unfolding row_length
+  row_behind e = omega (arith, e, here)

@@ -9,7 +9,7 @@ use lib.Seq.{sets}
 use Rattle.rules.specs.Loops.{flat, list}
 use Rattle.rules.specs.Numbers.{encode}
 use Rattle.rules.specs.Pile.{tip}
-use Rattle.rules.specs.Layout.{row_of, row_length, cell_at, column, body_row, body_bytes}
+use Rattle.rules.specs.Layout.{row_of, cell_at, column, body_row, body_bytes}
 use Rattle.rules.specs.Record.{record_cell, record_view, row_places, tips_place}
 use Rattle.rules.proofs.Loops.Pieces.{flat_cong, length_list, list_add, list_cong}
 use Rattle.rules.proofs.Loops.Sets.{sets_then}
@@ -17,29 +17,29 @@ use Rattle.rules.proofs.Loops.Writing.{Written, next_written}
 use Rattle.rules.proofs.Bytes.Numbers.{encode_append, length_encode}
 use Rattle.padding.specs.Lists.{numbers_record}
 use Rattle.padding.specs.Inner.{packed_row}
-use Rattle.padding.proofs.Halves.{front_is}
+use Rattle.padding.proofs.Halves.{front_is, tips_at}
 use Rattle.padding.proofs.Cells.{record_cell_lem}
 
 length_packed_row : (n : ℕ) (l : List ℕ) (r : ℕ) → length (encode (packed_row n l r)) ≡ 8 * (n + 1)
 length_packed_row n l r = length_encode (packed_row n l r) ∙ simp (length-append, length_list) (omega arith)
 
 -- two runs, one behind the other
-pack_runs : (before : List ℕ) (to n : ℕ) (f g : ℕ → ℕ) {m next : ℕ} {between after : List ℕ} → m ≡ 2 + n → next ≡ to + (8 + 4 * n)
-    → between ≡ sets before to (encode (list m f)) → after ≡ sets between next (encode (list n g)) → after ≡ sets before to (encode (list (2 + n) f ++ list n g))
+pack_runs : (before : List ℕ) (to n : ℕ) (f g : ℕ → ℕ) {m tips : ℕ} {between after : List ℕ} → m ≡ 2 + n → tips ≡ 8 + 4 * n
+    → between ≡ sets before to (encode (list m f)) → after ≡ sets between (to + tips) (encode (list n g)) → after ≡ sets before to (encode (list (2 + n) f ++ list n g))
 pack_runs before to n f g {m} size place first second =
     rw (second, first ∙ ap (λ (k : ℕ). sets before to (encode (list k f))) size, encode_append (list (2 + n) f) (list n g))
     (sets_then before to (encode (list (2 + n) f)) _ (encode (list n g)) (omega (arith, place, length_encode (list (2 + n) f), length_list (2 + n) f)))
 
 -- row r, which is written behind those before it
-pub next_packed : (n : ℕ) (l : List ℕ) {r row at front to next m desks : ℕ} {b before between after : List ℕ}
-    → Written b at (suc n) (λ j. encode (packed_row n l j)) r before → r < suc n → front ≡ column n tip 0 → to ≡ cell_at n r 0 → next ≡ cell_at n r front
-    → row ≡ r → m ≡ front → desks ≡ n → between ≡ sets before (at + to) (encode (list m (λ k. get_or l (1 + row * row_places + k) 0)))
-    → after ≡ sets between (at + next) (encode (list desks (λ k. get_or l (1 + row * row_places + tips_place + k) 0)))
+pub next_packed : (n : ℕ) (l : List ℕ) {r row at front to tips m desks : ℕ} {b before between after : List ℕ}
+    → Written b at (suc n) (λ j. encode (packed_row n l j)) r before → r < suc n → front ≡ column n tip 0 → tips ≡ cell_at n 0 front
+    → to ≡ at + r * (8 * (n + 1)) → row ≡ r → m ≡ front → desks ≡ n
+    → between ≡ sets before to (encode (list m (λ k. get_or l (1 + row * row_places + k) 0)))
+    → after ≡ sets between (to + tips) (encode (list desks (λ k. get_or l (1 + row * row_places + tips_place + k) 0)))
     → Written b at (suc n) (λ j. encode (packed_row n l j)) (r + 1) after
-unfolding cell_at row_length
-next_packed n l {r} {at = at} {to = to} {before = before} written r≤n is here behind same size all first second =
-    next_written (8 * (n + 1)) (λ j _. length_packed_row n l j) written r≤n (omega (arith, here))
-    (pack_runs before (at + to) n _ _ (size ∙ front_is n is) (omega (arith, behind, here, is)) (rw same at first) (rw (same, all) at second))
+next_packed n l {r} {to = to} {before = before} written r≤n is behind here same size all first second =
+    next_written (8 * (n + 1)) (λ j _. length_packed_row n l j) written r≤n here
+    (pack_runs before to n _ _ (size ∙ front_is n is) (tips_at n is behind) (rw same at first) (rw (same, all) at second))
 
 -- the rows of n desks are the body's
 module _ (n : ℕ) (n≤8 : n ≤ 8) (l : List ℕ) where

@@ -21,7 +21,7 @@ use Rattle.rules.proofs.Loops.Sets.{getD_sets_in, getD_sets_other}
 use Rattle.rules.proofs.File.Body.{by_column}
 use Rattle.rules.proofs.Record.RecordOf.{padded_used, padded_unused, length_shares, length_tallies, share_place, earned_place, give_place}
 use Rattle.padding.specs.Lists.{body_numbers}
-use Rattle.padding.proofs.Halves.{front_is}
+use Rattle.padding.proofs.Halves.{front_is, tips_at}
 use Rattle.padding.proofs.RecordLists.{length_numbers, cell_of}
 
 -- what stands in a list after a run of m numbers was read into it
@@ -148,12 +148,12 @@ module _ (n : ℕ) (cell : ℕ → ℕ → ℕ) where
             ∙ sym (cell_of wide (length_shares n pile) r c c<18)
 
 -- row r of the body at a position, read in its two runs
-pub next_padded : (n at : ℕ) (b : List ℕ) {r row front from next m desks : ℕ} {before between after : List ℕ} → n ≤ desk_limit
-    → Rows n (λ row column. number 4 b (at + cell_at n row column)) r before → r ≤ n → front ≡ column n tip 0 → from ≡ cell_at n r 0 → next ≡ cell_at n r front
-    → row ≡ r → m ≡ front → desks ≡ n → between ≡ sets before (row * row_places) (list m (λ k. number 4 b (at + from + k * 4)))
-    → after ≡ sets between (row * row_places + tips_place) (list desks (λ k. number 4 b (at + next + k * 4)))
+pub next_padded : (n at : ℕ) (b : List ℕ) {r row front from tips m desks : ℕ} {before between after : List ℕ} → n ≤ desk_limit
+    → Rows n (λ row column. number 4 b (at + cell_at n row column)) r before → r ≤ n → front ≡ column n tip 0 → tips ≡ cell_at n 0 front
+    → from ≡ at + r * (8 * (n + 1)) → row ≡ r → m ≡ front → desks ≡ n → between ≡ sets before (row * row_places) (list m (λ k. number 4 b (from + k * 4)))
+    → after ≡ sets between (row * row_places + tips_place) (list desks (λ k. number 4 b (from + tips + k * 4)))
     → Rows n (λ row column. number 4 b (at + cell_at n row column)) (r + 1) after
 unfolding cell_at row_length
-next_padded n at b {r} n≤8 rows r≤n is here behind same size all first second =
+next_padded n at b {r} n≤8 rows r≤n is behind here same size all first second =
     rw (second, first, same, size ∙ front_is n is, all)
-    (next_row n _ n≤8 r _ _ r≤n rows (λ c. ap (number 4 b) (omega (arith, here))) (λ j. ap (number 4 b) (omega (arith, behind, is))))
+    (next_row n _ n≤8 r _ _ r≤n rows (λ c. ap (number 4 b) (omega (arith, here))) (λ j. ap (number 4 b) (omega (arith, here, tips_at n is behind))))

@@ -7,7 +7,7 @@ ghost use Rattle.padding.specs.Inner.{RunFits, RowsFit, packed_row};
 
 use crate::{OPENING_AT, ROW, TIPS};
 use layout::cells::{cell_at, side_column};
-use layout::lengths::NUMBER;
+use layout::lengths::{NUMBER, row_length};
 use number::put4;
 
 // Writes count numbers of a list, from a place on, into bytes from a position on. Into a part of 4 bytes a number is written without a test.
@@ -28,21 +28,13 @@ pub(crate) fn pack_rows(bytes: &mut [u8], at: usize, numbers: &[u32], n: u8)
 {
     // As many columns stand before those of tip.
     let front = side_column(n, 1, 0);
+    let tips = cell_at(n, 0, front);
+    let size = row_length(n);
+    let mut to = at;
     for r in 0..=n {
         let from = OPENING_AT + usize::from(r) * ROW;
-        pack_run(
-            bytes,
-            at + cell_at(n, r, 0),
-            numbers,
-            from,
-            usize::from(front),
-        );
-        pack_run(
-            bytes,
-            at + cell_at(n, r, front),
-            numbers,
-            from + TIPS,
-            usize::from(n),
-        );
+        pack_run(bytes, to, numbers, from, usize::from(front));
+        pack_run(bytes, to + tips, numbers, from + TIPS, usize::from(n));
+        to += size;
     }
 }

@@ -10,7 +10,7 @@ ghost use Rattle.padding.specs.Lists.{body_numbers};
 
 use crate::{ROW, TIPS};
 use layout::cells::{cell_at, side_column};
-use layout::lengths::NUMBER;
+use layout::lengths::{NUMBER, row_length};
 use number::get4;
 
 // Reads count numbers from a position on into the places of a list from one on. Of a part of 4 bytes a number is read without a test.
@@ -31,15 +31,13 @@ pub(crate) fn pad_rows(out: &mut [u32], bytes: &[u8], n: u8, at: usize)
 {
     // As many columns stand before those of tip.
     let front = side_column(n, 1, 0);
+    let tips = cell_at(n, 0, front);
+    let size = row_length(n);
+    let mut from = at;
     for r in 0..=n {
         let to = usize::from(r) * ROW;
-        pad_run(out, to, bytes, at + cell_at(n, r, 0), usize::from(front));
-        pad_run(
-            out,
-            to + TIPS,
-            bytes,
-            at + cell_at(n, r, front),
-            usize::from(n),
-        );
+        pad_run(out, to, bytes, from, usize::from(front));
+        pad_run(out, to + TIPS, bytes, from + tips, usize::from(n));
+        from += size;
     }
 }

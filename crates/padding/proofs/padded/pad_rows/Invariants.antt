@@ -1,5 +1,6 @@
 -- `pad_rows` reads one row after the other.
-use Prim.Native.Nat.{◌+◌}
+use Prim.Native.Nat.{◌+◌, ◌*◌}
+use mathlib.Core.Path.{◌≡◌}
 use Rattle.rules.specs.Numbers.{number}
 use Rattle.rules.specs.Layout.{cell_at}
 use Rattle.padding.proofs.PaddedRows.{Rows}
@@ -7,4 +8,4 @@ use Rattle.padding.proofs.padded.pad_rows.Given as goal
 
 abbrev pub invariant-loop-r : goal.invariant-loop-r
 invariant-loop-r l =
-    Rows l.n (λ row column. number 4 l.bytes (l.at + cell_at l.n row column)) l.r l.out
+    (l.from ≡ l.at + l.r * (8 * (l.n + 1))) × Rows l.n (λ row column. number 4 l.bytes (l.at + cell_at l.n row column)) l.r l.out
