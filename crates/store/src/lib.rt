@@ -39,8 +39,11 @@ pub fn fetch_numbers(book: &[u8], number: u16, out: &mut [u32]) -> Result<(), Re
     ensures answer { answered result ≡ fetch_numbers_answer book.now number (length out.old) }
     ensures out { out.new ≡ after_fetch_numbers book.now number out.old }
 {
-    let found = seek(book, 0, number)?;
-    pad(book, found.start as usize, found.desks, out)
+    // By `match` the number of desks is read by itself, so that the compiler sees in `pad` that there are 8 at most; `?` would hand on both numbers as one.
+    match seek(book, 0, number) {
+        Ok(found) => pad(book, found.start as usize, found.desks, out),
+        Err(refusal) => Err(refusal),
+    }
 }
 
 // Stores a list as the record of a pile; refused with 1 to 7 or 10 for the book, then 3 where the list has another length than a record, then 2, 5, 6 or 7
