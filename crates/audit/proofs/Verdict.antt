@@ -1,4 +1,4 @@
--- What the account of a body tells of it: its tallies are lawful exactly where the tests on the account hold, and the answer that the tests give.
+-- What the account of a body tells of it: its tallies are lawful exactly where the tests on the account hold.
 -- Assumes nothing.
 use Prim.Native.Nat.{ℕ, suc, ◌+◌, ◌≤◌, ◌<◌}
 use native.Mathlib.Omega.{arith}
@@ -9,8 +9,7 @@ use lib.Dec.{leb, eqb}
 use borrow.Author.Tests.{le-leb, eqb-true, eq-eqb}
 use Rattle.rules.specs.Loops.{◌and◌, sum, every}
 use Rattle.rules.specs.Numbers.{number}
-use Rattle.rules.specs.Refusals.{◌when◌, ◌or_else◌}
-use Rattle.rules.specs.Pile.{Side, draw, tip, Pile, credit, tally_limit, lawful, opening_lawful, tallies_lawful, pile_answer}
+use Rattle.rules.specs.Pile.{Side, draw, tip, Pile, credit, tally_limit, tallies_lawful}
 use Rattle.rules.specs.Layout.{columns, column, cell_at}
 use Rattle.rules.proofs.File.Body.{by_column, column_below}
 use Rattle.audit.specs.declared.body.Body.{Body}
@@ -66,23 +65,6 @@ module _ (n : ℕ) (p : Pile) where
       within draw i l = omega (arith, term_le n i (λ i. credit n p draw i + credit n p tip i) l)
       within tip i l = omega (arith, term_le n i (λ i. credit n p draw i + credit n p tip i) l)
 
-  -- the answers, by the tests in their order
-  pub answer_5 : opening_lawful n p ≡ false → 5 ≡ pile_answer n p
-  unfolding pile_answer ◌when◌ ◌or_else◌
-  answer_5 o = rw o
-
-  pub answer_6 : opening_lawful n p ≡ true → every n (tallies_lawful n p) ≡ false → 6 ≡ pile_answer n p
-  unfolding pile_answer ◌when◌ ◌or_else◌
-  answer_6 o t = rw (o, t)
-
-  pub answer_7 : opening_lawful n p ≡ true → every n (tallies_lawful n p) ≡ true → lawful n p ≡ false → 7 ≡ pile_answer n p
-  unfolding pile_answer ◌when◌ ◌or_else◌
-  answer_7 o t e = rw (o, t, e)
-
-  pub answer_0 : opening_lawful n p ≡ true → every n (tallies_lawful n p) ≡ true → lawful n p ≡ true → 0 ≡ pile_answer n p
-  unfolding pile_answer ◌when◌ ◌or_else◌
-  answer_0 o t e = rw (o, t, e)
-
 module _ (body : Body) where
   abbrev n : ℕ
   n = body.n
@@ -111,3 +93,6 @@ module _ (body : Body) where
       number_small i e =
           by_column n (λ c. small i c ≡ true) (and_left _ _ (row_at n P i e draw)) (and_left _ _ (row_at n P i e tip))
           (λ s j m. every_at n _ (and_left _ _ (and_right _ _ (row_at n P i e s))) j m)
+
+-- what tells a `grind` whether a body's tallies are lawful
+pub ruleset tallies = (own_refused, small_lawful, read_lawful)

@@ -1,11 +1,12 @@
-// A body where it stands, and its numbers in the width of sums.
-ghost use Rattle.std.specs.Prelude.{◌≡◌, ◌+◌, ◌≤◌, ◌<◌, length};
+// A body where it stands, and its numbers.
+ghost use Rattle.std.specs.Prelude.{◌≡◌, ◌+◌, ◌≤◌, length};
 ghost use Rattle.rules.specs.Numbers.{number};
 ghost use Rattle.layout.specs.Inner.{BodyWithin};
 
 use crate::rights::body_there;
-use layout::cells::{cell_at, earned_column, side_column};
+use layout::cells::cell_at;
 use layout::lengths::NUMBER;
+use layout::side::Side;
 use number::get4;
 
 // The bytes start with it, and it is of n desks.
@@ -19,13 +20,14 @@ pub(crate) struct Body<'a> {
 impl<'a> Body<'a> {
     ghost use Rattle.std.specs.Prelude.{◌≡◌, ◌≤◌, ◌<◌, length, IfSome, is_some};
     ghost use Rattle.rules.specs.Numbers.{number};
-    ghost use Rattle.rules.specs.Pile.{side_of};
     ghost use Rattle.rules.specs.Layout.{columns, earned_column, cell_at, body_view};
     ghost use Rattle.layout.specs.Inner.{BodyWithin};
+    ghost use Rattle.layout.specs.Sides.{as_side};
     ghost use Rattle.audit.specs.Audits.{body_there};
     ghost use Rattle.audit.specs.Inner.{pile_of};
 
     // The body at a position where one is known to be there: nothing is tested.
+    #[tactic(auto, using(layout::proofs::Views::view_from))]
     pub(crate) fn at(bytes: &'a [u8], at: usize, n: u8) -> Body<'a>
         requires { BodyWithin n at bytes.now }
         ensures { (result.n ≡ n) × (pile_of result ≡ body_view n bytes.now at) }
@@ -37,6 +39,7 @@ impl<'a> Body<'a> {
     }
 
     // The body of n desks at a position, if one is there.
+    #[tactic(auto, using(crate::proofs::There::there_within))]
     pub(crate) fn of(bytes: &'a [u8], at: usize, n: u8) -> Option<Body<'a>>
         ensures there { is_some result ≡ body_there n at (length bytes.now) }
         ensures body { IfSome result (λ b. (b.n ≡ n) × (pile_of b ≡ body_view n bytes.now at)) }
@@ -59,49 +62,51 @@ impl<'a> Body<'a> {
     }
 
     // The number of a row and a column.
-    pub(crate) fn cell(self, row: u8, column: u16) -> u64
+    #[tactic(auto, using(rules::proofs::File::Cells::cell_fits))]
+    pub(crate) fn cell(self, row: u8, column: u16) -> u32
         requires { (row ≤ self.n) × (column < columns self.n) }
-        ensures { (result ≡ number 4 self.entry.bytes.now (cell_at self.entry.n row column)) × (result < 4294967296) }
+        ensures { result ≡ number 4 self.entry.bytes.now (cell_at self.entry.n row column) }
     {
         word(self.bytes, cell_at(self.n, row, column))
     }
 
-    // Floor for 0, top for any other.
-    pub(crate) fn bound(self, side: u8) -> u64
-        ensures { (result ≡ number 4 self.entry.bytes.now (cell_at self.entry.n 0 (earned_column (side_of side)))) × (result < 4294967296) }
+    // What rights of a side reach to: the floor those to draw, the top those to tip.
+    pub(crate) fn bound(self, side: Side) -> u32
+        ensures { result ≡ number 4 self.entry.bytes.now (cell_at self.entry.n 0 (earned_column (as_side side))) }
     {
-        self.cell(0, earned_column(side))
+        self.cell(0, side.earned_column())
     }
 
-    // Desk j's share of a side, 0 for draw, any other for tip: a number, since `side_column` answers any.
-    pub(crate) fn share(self, side: u8, j: u8) -> u64
+    // Desk j's share of a side.
+    pub(crate) fn share(self, side: Side, j: u8) -> u32
         requires { j < self.n }
-        ensures { (result ≡ (pile_of self.entry).share (side_of side) j) × (result < 4294967296) }
+        ensures { result ≡ (pile_of self.entry).share (as_side side) j }
     {
-        self.cell(0, side_column(self.n, side, j))
+        self.cell(0, side.column(self.n, j))
     }
 
     // What desk i gave desk j of a side.
-    pub(crate) fn give(self, side: u8, i: u8, j: u8) -> u64
+    pub(crate) fn give(self, side: Side, i: u8, j: u8) -> u32
         requires { (i < self.n) × (j < self.n) }
-        ensures { (result ≡ (pile_of self.entry).give (side_of side) i j) × (result < 4294967296) }
+        ensures { result ≡ (pile_of self.entry).give (as_side side) i j }
     {
-        self.cell(i + 1, side_column(self.n, side, j))
+        self.cell(i + 1, side.column(self.n, j))
     }
 
     // What earned desk i rights of a side: what it tipped, or what it drew.
-    pub(crate) fn earned(self, side: u8, i: u8) -> u64
+    pub(crate) fn earned(self, side: Side, i: u8) -> u32
         requires { i < self.n }
-        ensures { (result ≡ (pile_of self.entry).earned (side_of side) i) × (result < 4294967296) }
+        ensures { result ≡ (pile_of self.entry).earned (as_side side) i }
     {
-        self.cell(i + 1, earned_column(side))
+        self.cell(i + 1, side.earned_column())
     }
 }
 
 // The number at a position. Of a part of 4 bytes it is read without a test.
-pub(crate) fn word(bytes: &[u8], at: usize) -> u64
+#[tactic(auto, using(rules::proofs::Bytes::Numbers::number_read))]
+pub(crate) fn word(bytes: &[u8], at: usize) -> u32
     requires { at + 4 ≤ length bytes.now }
-    ensures { (result ≡ number 4 bytes.now at) × (result < 4294967296) }
+    ensures { result ≡ number 4 bytes.now at }
 {
-    u64::from(get4(&bytes[at..at + NUMBER], 0))
+    get4(&bytes[at..at + NUMBER], 0)
 }

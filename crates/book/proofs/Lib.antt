@@ -1,3 +1,4 @@
 pub mod Lines
 pub mod Replies
 pub mod Bodies
+pub mod Entries

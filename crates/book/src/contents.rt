@@ -9,6 +9,7 @@ use layout::head::{ENTRY, Head, entry_at, front_length};
 use layout::lengths::body_length;
 
 // Pile numbers rise from above 0, and each position is where its body starts.
+#[tactic(auto, using(crate::proofs::Entries::contents_loop), unfolding(rules::specs::Book::contents_sound))]
 pub(crate) fn contents_sound(book: &[u8], head: Head) -> bool
     requires { Contents (as_head head) book.now }
     ensures { result ≡ contents_sound (as_head head) book.now }
@@ -38,11 +39,8 @@ pub(crate) fn place_of(book: &[u8], p: u8, number: u16) -> Option<u8>
     ensures found { IfSome result (λ k. (k < p) × (k ≡ place_among p book.now number)) }
     ensures absent { IfNone result (place_among p book.now number ≡ p) }
 {
-    for k in 0..p {
-        let at = entry_at(k);
-        if entry_number(&book[at..at + ENTRY]) == number {
-            return Some(k);
-        }
-    }
-    None
+    (0..p).find(|k| {
+        let at = entry_at(*k);
+        entry_number(&book[at..at + ENTRY]) == number
+    })
 }

@@ -9,6 +9,7 @@ use layout::head::head_of;
 use refusal::Refusal;
 
 // The pile's place in the contents; the book's own refusal, 11 where it does not have the desk, 10 where it does not have the pile. Every book has desk 0.
+#[tactic(auto, using(crate::proofs::Lines::find_lines), unfolding(rules::specs::Book::desk_answer, rules::specs::Book::absent, rules::specs::Book::place))]
 pub(crate) fn find(book: &[u8], desk: u8, number: u16) -> Result<u8, Refusal>
     ensures answer { answered result ≡ desk_answer desk book.now number }
     ensures place { IfOk result (λ k. k ≡ place book.now number) }

@@ -19,11 +19,12 @@ use find::find;
 use layout::contents::position;
 use layout::head::head_of;
 use layout::lengths::body_length;
+use layout::side::Side;
 use queries::rights_of;
 use readable::book_answer;
 use refusal::Refusal;
 
-// The book's own refusal, 1 to 7, or 0.
+// The book's own refusal, 1 to 7.
 pub fn check(book: &[u8]) -> Result<(), Refusal>
     ensures { answered result ≡ book_answer book.now }
 {
@@ -31,6 +32,7 @@ pub fn check(book: &[u8]) -> Result<(), Refusal>
 }
 
 // The body found for a pile number, as the part of the book at its contents position; empty, at the book's start, where `fetch` is refused, with 1 to 7 or 10.
+#[tactic(auto, using(crate::proofs::Replies::body_told), unfolding(rules::specs::Book::body_part, rules::specs::Book::body_start))]
 pub fn body(book: &[u8], number: u16) -> &[u8]
     ensures bytes { result.now ≡ body_part book.now number }
     ensures place { result.ref_ptr ≡ part_place book.entry.ref_ptr (body_start book.now number) }
@@ -44,13 +46,14 @@ pub fn body(book: &[u8], number: u16) -> &[u8]
 }
 
 // Where a desk's call finds a pile: of how many desks its body is, and where that starts.
-#[derive(Clone, Copy)]
+#[derive(Clone, Copy, Debug, PartialEq, Eq)]
 pub struct Sought {
     pub desks: u8,
     pub start: u32,
 }
 
 // The body of a number, for a desk; refused with 1 to 7, 11 or 10. Every book has desk 0.
+#[tactic(auto, using(crate::proofs::Replies::start_at, crate::proofs::Replies::count_at))]
 pub fn seek(book: &[u8], desk: u8, number: u16) -> Result<Sought, Refusal>
     ensures answer { answered result ≡ desk_answer desk book.now number }
     ensures start { IfOk result (λ sought. sought.start ≡ desk_start desk book.now number) }
@@ -64,6 +67,7 @@ pub fn seek(book: &[u8], desk: u8, number: u16) -> Result<Sought, Refusal>
 }
 
 // The tonnage of a pile by the acts that the book holds; refused with 1 to 7 or 10.
+#[tactic(auto, using(crate::proofs::Bodies::tonnage_queries), unfolding(rules::specs::Book::tonnage_reply))]
 pub fn tonnage(book: &[u8], number: u16) -> Result<u32, Refusal>
     ensures { as_reply result ≡ tonnage_reply book.now number }
 {
@@ -72,15 +76,17 @@ pub fn tonnage(book: &[u8], number: u16) -> Result<u32, Refusal>
 }
 
 // A desk's draw rights of a pile; refused with 1 to 7, 11 or 10.
+#[tactic(auto, using(crate::proofs::Bodies::queries), unfolding(rules::specs::Book::rights_reply))]
 pub fn draw_rights(book: &[u8], desk: u8, number: u16) -> Result<u32, Refusal>
     ensures { as_reply result ≡ rights_reply draw desk book.now number }
 {
-    Ok(rights_of(book, 0, desk, seek(book, desk, number)?))
+    Ok(rights_of(book, Side::Draw, desk, seek(book, desk, number)?))
 }
 
 // A desk's tip rights of a pile; refused with 1 to 7, 11 or 10.
+#[tactic(auto, using(crate::proofs::Bodies::queries), unfolding(rules::specs::Book::rights_reply))]
 pub fn tip_rights(book: &[u8], desk: u8, number: u16) -> Result<u32, Refusal>
     ensures { as_reply result ≡ rights_reply tip desk book.now number }
 {
-    Ok(rights_of(book, 1, desk, seek(book, desk, number)?))
+    Ok(rights_of(book, Side::Tip, desk, seek(book, desk, number)?))
 }

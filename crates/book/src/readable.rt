@@ -14,6 +14,7 @@ use layout::head::{HEAD, Head, body_at, front_length, head_of, head_sound};
 use refusal::Refusal;
 
 // The first refusal of a body, in file order.
+#[tactic(auto, using(crate::proofs::Lines::bodies_lines), unfolding(audit::specs::Audits::bodies_answer, rules::specs::Layout::body_at, rules::specs::Layout::book_length))]
 pub(crate) fn bodies_answer(book: &[u8], head: Head) -> Result<(), Refusal>
     requires { BookSized (as_head head) book.now }
     ensures { answered result ≡ first head.piles (λ k. pile_answer head.desks (body_view head.desks book.now (body_at (as_head head) k))) }
@@ -27,6 +28,7 @@ pub(crate) fn bodies_answer(book: &[u8], head: Head) -> Result<(), Refusal>
 }
 
 // A book's own answer: head, length and contents, and then its bodies.
+#[tactic(auto, using(crate::proofs::Lines::book_lines), unfolding(rules::specs::Book::book_answer, rules::specs::Layout::pile_of))]
 pub(crate) fn book_answer(book: &[u8]) -> Result<(), Refusal>
     ensures { answered result ≡ book_answer book.now }
 {

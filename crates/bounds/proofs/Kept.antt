@@ -6,7 +6,7 @@ use Rattle.rules.specs.Pile.{Side, draw, tip, Pile, rights}
 use Rattle.rules.specs.Bounds.{least, most, bound}
 use Rattle.bounds.specs.Inner.{kept}
 
-pub kept_bound : (n : ℕ) (p : Pile) (s : Side) (i : ℕ) → kept s p.floor p.top (rights n p s i) ≡ bound n p s i
+pub kept_bound : (n : ℕ) (p : Pile) (s : Side) (i : ℕ) → bound n p s i ≡ kept s p.floor p.top (rights n p s i)
 unfolding least most
 kept_bound n p draw i = refl
 kept_bound n p tip i = refl

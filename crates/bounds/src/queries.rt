@@ -1,52 +1,44 @@
-// The bound of one desk, asked of a record and of a book. The side is a parameter: 0 for draw, any other for tip. It is a number, since `rights_in` and `side_column` answer any.
+// The bound of one desk, asked of a record and of a book. The side is a parameter.
 ghost use Rattle.std.specs.Prelude.{◌≡◌};
-ghost use Rattle.rules.specs.Pile.{side_of};
 ghost use Rattle.rules.specs.Layout.{desks, body_view};
-ghost use Rattle.rules.specs.Record.{record_rights_reply};
 ghost use Rattle.rules.specs.Bounds.{bound, record_bound_reply};
+ghost use Rattle.layout.specs.Sides.{as_side};
 ghost use Rattle.pile.specs.View.{as_record};
 ghost use Rattle.pile.specs.Replies.{as_reply};
 ghost use Rattle.book.specs.Inner.{SoughtBody};
 
 use crate::bound::bound_of;
-use audit::rights_in;
+use audit::side_rights;
 use book::Sought;
-use layout::cells::{cell_at, earned_column};
+use layout::cells::cell_at;
 use layout::lengths::row_length;
+use layout::side::Side;
 use number::get4;
 use pile::Pile;
 use refusal::Refusal;
 
-// The rights that keep the bound.
-fn rights_of(pile: Pile, side: u8, desk: u8) -> Result<u32, Refusal>
-    ensures { as_reply result ≡ record_rights_reply (side_of side) desk (as_record pile) }
+// By the rights that keep the bound, and refused as they are.
+#[tactic(auto, using(crate::proofs::Replies::record_told))]
+pub(crate) fn record_bound(pile: Pile, side: Side, desk: u8) -> Result<u32, Refusal>
+    ensures { as_reply result ≡ record_bound_reply (as_side side) desk (as_record pile) }
 {
-    if side == 0 {
-        return pile.draw_rights(desk);
-    }
-    pile.tip_rights(desk)
-}
-
-// Refused as the rights are.
-pub(crate) fn record_bound(pile: Pile, side: u8, desk: u8) -> Result<u32, Refusal>
-    ensures { as_reply result ≡ record_bound_reply (side_of side) desk (as_record pile) }
-{
-    let rights = rights_of(pile, side, desk)?;
+    let rights = pile.rights(side, desk)?;
     Ok(bound_of(side, pile.floor, pile.top, rights))
 }
 
 // By the rights and the opening of the body that `seek` has found. It is sought by the callers, as for the rights: with that in it the function is too long
 // to be inlined.
-pub(crate) fn book_bound(book: &[u8], side: u8, desk: u8, found: Sought) -> u32
+#[tactic(auto, using(crate::proofs::Replies::opening_read))]
+pub(crate) fn book_bound(book: &[u8], side: Side, desk: u8, found: Sought) -> u32
     requires { SoughtBody desk book.now found.desks found.start }
-    ensures { result ≡ bound (desks book.now) (body_view (desks book.now) book.now found.start) (side_of side) desk }
+    ensures { result ≡ bound (desks book.now) (body_view (desks book.now) book.now found.start) (as_side side) desk }
 {
     let n = found.desks;
     let start = found.start as usize;
-    let rights = rights_in(book, start, n, side, desk) as u32;
+    let rights = side_rights(book, start, n, side, desk) as u32;
     // Of a part that is known to be there a number is read without a test.
     let opening = &book[start..start + row_length(n)];
-    let floor = get4(opening, cell_at(n, 0, earned_column(0)));
-    let top = get4(opening, cell_at(n, 0, earned_column(1)));
+    let floor = get4(opening, cell_at(n, 0, Side::Draw.earned_column()));
+    let top = get4(opening, cell_at(n, 0, Side::Tip.earned_column()));
     bound_of(side, floor, top, rights)
 }

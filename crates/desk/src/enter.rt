@@ -1,12 +1,13 @@
 // Entering an act in a book: the desk's rights and the act's tally answer, and that one tally is written.
 ghost use Rattle.std.specs.Prelude.{◌≡◌};
 ghost use Rattle.rules.specs.Book.{act_answer, after_act};
-ghost use Rattle.desk.specs.Kinds.{kind_of, act};
+ghost use Rattle.act_lines.specs.Kinds.{kind_of};
+ghost use Rattle.desk.specs.Kinds.{act};
 ghost use Rattle.refusal.specs.Answers.{answered};
 
-use crate::kinds::Kind;
 use act_lines::act_refusal;
-use audit::rights_in;
+use act_lines::kinds::Kind;
+use audit::side_rights;
 use book::seek;
 use layout::cells::cell_at;
 use number::{get4, put4};
@@ -26,9 +27,10 @@ pub(crate) fn enter(
     let found = seek(book, desk, number)?;
     let n = found.desks;
     let start = found.start as usize;
-    let at = start + cell_at(n, desk + 1, kind.column(n));
+    let column = kind.column(n);
+    let at = start + cell_at(n, desk + 1, column);
     let tally = get4(book, at);
-    let rights = rights_in(book, start, n, kind.side(), desk);
+    let rights = side_rights(book, start, n, kind.side(), desk);
     act_refusal(kind.receiver_wrong(n, desk), amount, rights, tally)?;
     put4(book, at, tally + amount)
 }

@@ -1,24 +1,11 @@
 // Books of two desks and two piles that are refused, and openings of them: each number of the table.
-use crate::acted;
+use crate::act;
 use crate::takes::{LENGTH, h};
 use book::check;
 use opening::open;
 use refusal::answer;
+use samples::{first, with};
 use std::io;
-
-// The book with another byte.
-pub(crate) fn with(book: [u8; LENGTH], at: usize, byte: u8) -> [u8; LENGTH] {
-    let mut changed = book;
-    if let Some(place) = changed.get_mut(at) {
-        *place = byte;
-    }
-    changed
-}
-
-// Its first bytes.
-pub(crate) fn first(book: &[u8], count: usize) -> &[u8] {
-    book.get(..count).unwrap_or(book)
-}
 
 // Pile 9's body starts at 88, and its rows at 112 and 136. Its top set to 7: the shares do not add up.
 pub(crate) fn opening_wrong(book: [u8; LENGTH]) -> [u8; LENGTH] {
@@ -110,8 +97,8 @@ fn orders(rt: &impl Print, h: [u8; LENGTH]) -> io::Result<()> {
 
 // An opening in a buffer of 160 bytes of 7.
 fn opens(rt: &impl Print, label: &str, n: u8, p: u8, numbers: &[u32]) -> io::Result<()> {
-    acted(rt, label, [7u8; LENGTH], |out| open(n, p, numbers, out))?;
-    println!(rt;)
+    act(rt, label, [7u8; LENGTH], |out| open(n, p, numbers, out))?;
+    Ok(())
 }
 
 fn sizes(rt: &impl Print) -> io::Result<()> {
@@ -151,15 +138,13 @@ fn lists(rt: &impl Print) -> io::Result<()> {
 fn buffers(rt: &impl Print) -> io::Result<()> {
     let numbers = [5, 10, 50, 4, 6, 20, 10, 9, 0, 8, 1, 2, 3, 2];
     let label = "open in 159 bytes";
-    acted(rt, label, [7u8; 159], |out| open(2, 2, &numbers, out))?;
-    println!(rt;)?;
+    act(rt, label, [7u8; 159], |out| open(2, 2, &numbers, out))?;
     let latter = [5, 10, 50, 4, 6, 20, 10, 9, 0, 8, 1, 2, 3, 1];
     let label = "open in 159 bytes with a wrong opening of 9";
-    acted(rt, label, [7u8; 159], |out| open(2, 2, &latter, out))?;
-    println!(rt;)?;
+    act(rt, label, [7u8; 159], |out| open(2, 2, &latter, out))?;
     let label = "open in 163 bytes";
-    acted(rt, label, [7u8; 163], |out| open(2, 2, &numbers, out))?;
-    println!(rt;)
+    act(rt, label, [7u8; 163], |out| open(2, 2, &numbers, out))?;
+    Ok(())
 }
 
 pub(crate) fn run(rt: &impl Print) -> io::Result<()> {

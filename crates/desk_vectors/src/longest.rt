@@ -2,12 +2,11 @@
 use crate::{acted, alike, pile_of, rights, taken};
 use desk::{draw, tip};
 use layout::head::book_length;
+use layout::lengths::LONGEST_BOOK;
 use opening::open;
 use refusal::Refusal;
 use samples::longest_list;
 use std::io;
-
-const LENGTH: usize = 20932;
 
 // The tonnage of pile 32, and the rights of desks 0, 1 and 7.
 fn pile_32(rt: &impl Print, book: &[u8]) -> io::Result<()> {
@@ -16,13 +15,13 @@ fn pile_32(rt: &impl Print, book: &[u8]) -> io::Result<()> {
     println!(rt;)
 }
 
-// A call on a copy of a book, and the copy after it.
+// As the crate's `act`, but that its line ends with what the copy tells of pile 32.
 fn act<F: FnOnce(&mut [u8]) -> Result<(), Refusal>>(
     rt: &impl Print,
     label: &str,
-    before: [u8; LENGTH],
+    before: [u8; LONGEST_BOOK],
     act: F,
-) -> io::Result<[u8; LENGTH]>
+) -> io::Result<[u8; LONGEST_BOOK]>
     requires { F.IsAlwaysCallable act }
 {
     let book = acted(rt, label, before, act)?;
@@ -30,18 +29,18 @@ fn act<F: FnOnce(&mut [u8]) -> Result<(), Refusal>>(
     Ok(book)
 }
 
-fn opened(rt: &impl Print) -> io::Result<[u8; LENGTH]> {
+fn opened(rt: &impl Print) -> io::Result<[u8; LONGEST_BOOK]> {
     let numbers = longest_list();
     act(
         rt,
         "open the longest book",
-        [0u8; LENGTH],
+        [0u8; LONGEST_BOOK],
         |book| open(8, 32, &numbers, book),
     )
 }
 
 // Desk 7 tips onto pile 32; what it then draws is past its rights.
-fn spent(rt: &impl Print, fresh: [u8; LENGTH]) -> io::Result<[u8; LENGTH]> {
+fn spent(rt: &impl Print, fresh: [u8; LONGEST_BOOK]) -> io::Result<[u8; LONGEST_BOOK]> {
     let book = act(rt, "desk 7 tips 1 onto 32", fresh, |b| tip(b, 7, 32, 1))?;
     act(rt, "desk 7 draws 3 from 32", book, |b| draw(b, 7, 32, 3))
 }
@@ -49,10 +48,10 @@ fn spent(rt: &impl Print, fresh: [u8; LENGTH]) -> io::Result<[u8; LENGTH]> {
 fn takes(
     rt: &impl Print,
     label: &str,
-    own: [u8; LENGTH],
-    copy: [u8; LENGTH],
+    own: [u8; LONGEST_BOOK],
+    copy: [u8; LONGEST_BOOK],
     desk: u8,
-) -> io::Result<[u8; LENGTH]> {
+) -> io::Result<[u8; LONGEST_BOOK]> {
     let book = taken(rt, label, own, &copy, desk)?;
     pile_32(rt, &book)?;
     Ok(book)

@@ -64,6 +64,20 @@ pub(crate) fn acted<const N: usize, F: FnOnce(&mut [u8]) -> Result<(), Refusal>>
     Ok(book)
 }
 
+// The same, and the end of its line.
+pub(crate) fn act<const N: usize, F: FnOnce(&mut [u8]) -> Result<(), Refusal>>(
+    rt: &impl Print,
+    label: &str,
+    before: [u8; N],
+    act: F,
+) -> io::Result<[u8; N]>
+    requires { F.IsAlwaysCallable act }
+{
+    let book = acted(rt, label, before, act)?;
+    println!(rt;)?;
+    Ok(book)
+}
+
 // A take and its answer: the refusal's number or 0, and how many rows changed, 0 beside a refusal; then the bytes as above.
 pub(crate) fn reported(
     rt: &impl Print,
@@ -90,6 +104,19 @@ pub(crate) fn taken<const N: usize>(
     let mut book = own;
     let told = take(&mut book, copy, desk);
     reported(rt, label, told, &own, &book)?;
+    Ok(book)
+}
+
+// The same, and the end of its line.
+pub(crate) fn takes_bytes<const N: usize>(
+    rt: &impl Print,
+    label: &str,
+    own: [u8; N],
+    copy: &[u8],
+    desk: u8,
+) -> io::Result<[u8; N]> {
+    let book = taken(rt, label, own, copy, desk)?;
+    println!(rt;)?;
     Ok(book)
 }
 

@@ -1,25 +1,10 @@
 // A book of three desks and three piles in 406 bytes, and what takes of its copies report: how many pairs of a pile and a desk have another row.
-use crate::{acted, taken};
+use crate::{act, takes_bytes};
 use desk::{draw, tip};
 use opening::open;
-use refusal::Refusal;
 use std::io;
 
 const LENGTH: usize = 406;
-
-// A call on a copy of a book, and the copy after it.
-fn act<F: FnOnce(&mut [u8]) -> Result<(), Refusal>>(
-    rt: &impl Print,
-    label: &str,
-    before: [u8; LENGTH],
-    act: F,
-) -> io::Result<[u8; LENGTH]>
-    requires { F.IsAlwaysCallable act }
-{
-    let book = acted(rt, label, before, act)?;
-    println!(rt;)?;
-    Ok(book)
-}
 
 // Each of the piles 1, 2 and 3 has floor 0, top 60 and all six shares 10.
 fn opened(rt: &impl Print) -> io::Result<[u8; LENGTH]> {
@@ -33,18 +18,6 @@ fn opened(rt: &impl Print) -> io::Result<[u8; LENGTH]> {
         [0u8; LENGTH],
         |book| open(3, 3, &numbers, book),
     )
-}
-
-fn takes(
-    rt: &impl Print,
-    label: &str,
-    own: [u8; LENGTH],
-    copy: [u8; LENGTH],
-    desk: u8,
-) -> io::Result<[u8; LENGTH]> {
-    let book = taken(rt, label, own, &copy, desk)?;
-    println!(rt;)?;
-    Ok(book)
 }
 
 // News of desks 1 and 2 on all three piles.
@@ -69,17 +42,17 @@ pub(crate) fn run(rt: &impl Print) -> io::Result<()> {
     let fresh = opened(rt)?;
     let own = act(rt, "own: desk 0 draws from 1", fresh, |b| draw(b, 0, 1, 1))?;
     let copy = everywhere(rt, fresh)?;
-    let own = takes(
+    let own = takes_bytes(
         rt,
         "desk 0 takes news of two desks on three piles",
         own,
-        copy,
+        &copy,
         0,
     )?;
-    let own = takes(rt, "desk 0 takes it again", own, copy, 0)?;
+    let own = takes_bytes(rt, "desk 0 takes it again", own, &copy, 0)?;
     let copy = here_and_there(rt, copy)?;
-    let own = takes(rt, "desk 0 takes news of three rows", own, copy, 0)?;
-    let own = takes(rt, "desk 0 takes an old copy", own, fresh, 0)?;
-    takes(rt, "desk 1 takes the taken book", copy, own, 1)?;
+    let own = takes_bytes(rt, "desk 0 takes news of three rows", own, &copy, 0)?;
+    let own = takes_bytes(rt, "desk 0 takes an old copy", own, &fresh, 0)?;
+    takes_bytes(rt, "desk 1 takes the taken book", copy, &own, 1)?;
     Ok(())
 }

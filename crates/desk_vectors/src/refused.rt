@@ -1,36 +1,25 @@
 // Acts on H that are refused: the book's own numbers, 11, 10, 12, 13, 14 and 15, each before all that come after it.
 ghost use Rattle.std.specs.Prelude.{◌<◌};
 
-use crate::acted;
-use crate::broken::{opening_wrong, rights_negative, tally_over, with};
+use crate::act;
+use crate::broken::{opening_wrong, rights_negative, tally_over};
 use crate::takes::{LENGTH, h};
 use desk::{draw, give_draw, tip};
-use refusal::Refusal;
+use samples::with;
 use std::io;
-
-// A call on a copy of a book.
-fn act<F: FnOnce(&mut [u8]) -> Result<(), Refusal>>(
-    rt: &impl Print,
-    label: &str,
-    before: [u8; LENGTH],
-    act: F,
-) -> io::Result<()>
-    requires { F.IsAlwaysCallable act }
-{
-    acted(rt, label, before, act)?;
-    println!(rt;)
-}
 
 // A give of draw rights by no desk, of no pile, to no desk: in a whole book, and in the first bytes of one alone.
 fn gives_nothing(rt: &impl Print, label: &str, before: [u8; LENGTH]) -> io::Result<()> {
-    act(rt, label, before, |b| give_draw(b, 2, 6, 2, 0))
+    act(rt, label, before, |b| give_draw(b, 2, 6, 2, 0))?;
+    Ok(())
 }
 
 fn gives_first(rt: &impl Print, label: &str, before: [u8; LENGTH], count: usize) -> io::Result<()> {
     act(rt, label, before, |b| match b.get_mut(..count) {
         Some(first) => give_draw(first, 2, 6, 2, 0),
         None => Ok(()),
-    })
+    })?;
+    Ok(())
 }
 
 fn gives(
@@ -47,15 +36,18 @@ fn gives(
         label,
         before,
         |b| give_draw(b, desk, number, receiver, amount),
-    )
+    )?;
+    Ok(())
 }
 
 fn tips(rt: &impl Print, label: &str, before: [u8; LENGTH], amount: u32) -> io::Result<()> {
-    act(rt, label, before, |b| tip(b, 0, 9, amount))
+    act(rt, label, before, |b| tip(b, 0, 9, amount))?;
+    Ok(())
 }
 
 fn draws(rt: &impl Print, label: &str, before: [u8; LENGTH], amount: u32) -> io::Result<()> {
-    act(rt, label, before, |b| draw(b, 0, 9, amount))
+    act(rt, label, before, |b| draw(b, 0, 9, amount))?;
+    Ok(())
 }
 
 // In each of these books the desk, the pile, the receiver and the amount are wrong too.

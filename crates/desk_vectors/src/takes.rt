@@ -1,9 +1,9 @@
 // H, a book of two desks and two piles in 160 bytes, and takes into it: each refusal of a take, and accepted ones.
-use crate::broken::{first, give_to_itself, opening_wrong, rights_negative, tally_over, with};
-use crate::{acted, alike, pile_of, reported, taken};
+use crate::broken::{give_to_itself, opening_wrong, rights_negative, tally_over};
+use crate::{act, acted, alike, pile_of, reported, taken, takes_bytes};
 use desk::{draw, give_tip, tip};
 use opening::open;
-use refusal::Refusal;
+use samples::{first, with};
 use std::io;
 use take::take;
 
@@ -17,32 +17,7 @@ pub(crate) fn h() -> [u8; LENGTH] {
     book
 }
 
-// A call on a copy of a book, and the copy after it.
-fn act<F: FnOnce(&mut [u8]) -> Result<(), Refusal>>(
-    rt: &impl Print,
-    label: &str,
-    before: [u8; LENGTH],
-    act: F,
-) -> io::Result<[u8; LENGTH]>
-    requires { F.IsAlwaysCallable act }
-{
-    let book = acted(rt, label, before, act)?;
-    println!(rt;)?;
-    Ok(book)
-}
-
-// A take of any bytes, and of a copy as long as H.
-fn takes_bytes(
-    rt: &impl Print,
-    label: &str,
-    own: [u8; LENGTH],
-    copy: &[u8],
-    desk: u8,
-) -> io::Result<()> {
-    taken(rt, label, own, copy, desk)?;
-    println!(rt;)
-}
-
+// A take of a copy as long as H.
 fn takes(
     rt: &impl Print,
     label: &str,
@@ -50,7 +25,8 @@ fn takes(
     copy: [u8; LENGTH],
     desk: u8,
 ) -> io::Result<()> {
-    takes_bytes(rt, label, own, &copy, desk)
+    takes_bytes(rt, label, own, &copy, desk)?;
+    Ok(())
 }
 
 // The own book's refusals, 1 and 3 excepted, before the copy's and 11.

@@ -14,7 +14,7 @@ fn pile_7(rt: &impl Print, book: &[u8]) -> io::Result<()> {
     println!(rt;)
 }
 
-// A call on a copy of a book, and the copy after it.
+// As the crate's `act`, but that its line ends with what the copy tells of pile 7.
 fn act<F: FnOnce(&mut [u8]) -> Result<(), Refusal>>(
     rt: &impl Print,
     label: &str,

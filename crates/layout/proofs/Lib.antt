@@ -1,4 +1,3 @@
-pub mod Sides
 pub mod Short
 pub mod Views
 pub mod Sizes

@@ -26,8 +26,5 @@ view_from n b at =
     ap (first_body n) (rest_is at b) ∙ ap (view n) (fun_ext (λ row. fun_ext (λ column. number_from 4 b at (cell_at n row column))))
 
 module _ {n at : ℕ} {b : List ℕ} (body : BodyWithin n at b) where
-  pub within_from : BodyWithin n 0 (rest at b)
-  within_from = record { desks_most = body.desks_most; within = omega (arith, body.within, ap length (rest_is at b), length-drop at b) }
-
   pub cell_within : {row column : ℕ} → row ≤ n → column < columns n → at + cell_at n row column + 4 ≤ length b
   cell_within {row} {column} r c = omega (arith, body.within, cell_fits n row column (omega arith) c)

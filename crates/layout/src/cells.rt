@@ -1,9 +1,10 @@
-// Where the numbers of a body stand: in which column of a row, and at which position from the body's start. A side is 0 for draw, any other for tip.
+// Where the numbers of a body stand: in which column of a row, and at which position from the body's start.
 ghost use Rattle.std.specs.Prelude.{◌≡◌};
 ghost use Rattle.rules.specs.Pile.{side_of};
 ghost use Rattle.rules.specs.Layout.{columns, earned_column, column, cell_at};
 
 use crate::lengths::{NUMBER, row_length};
+use crate::side::Side;
 
 // The numbers of a row of n desks.
 pub fn columns_of(n: u8) -> u16
@@ -12,25 +13,21 @@ pub fn columns_of(n: u8) -> u16
     2 + (u16::from(n) + u16::from(n))
 }
 
-// The column of what earned a desk rights of a side: what it tipped, or what it drew. The opening has floor and top there.
+// The columns of a side that is told by its number: 0 for draw, any other for tip.
 pub fn earned_column(side: u8) -> u16
     ensures { result ≡ earned_column (side_of side) }
 {
-    if side == 0 { 0 } else { 1 }
+    Side::from(side).earned_column()
 }
 
-// The column of a side's gives to desk j, and of its share of that side.
 pub fn side_column(n: u8, side: u8, j: u8) -> u16
     ensures { result ≡ column n (side_of side) j }
 {
-    if side == 0 {
-        2 + u16::from(j)
-    } else {
-        2 + (u16::from(n) + u16::from(j))
-    }
+    Side::from(side).column(n, j)
 }
 
 // Where a number of a row stands in a body of n desks.
+#[tactic(auto, unfolding(rules::specs::Layout::cell_at))]
 pub fn cell_at(n: u8, row: u8, column: u16) -> usize
     ensures { result ≡ cell_at n row column }
 {

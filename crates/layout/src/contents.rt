@@ -13,12 +13,14 @@ const POSITION: usize = 2;
 
 // The pile number of an entry, and where the entry says that the pile's body starts. Bytes that are not there count as 0. Of an entry that is known to have
 // its bytes they are read without a test.
+#[tactic(auto, unfolding(crate::specs::Positions::entry_number))]
 pub fn entry_number(entry: &[u8]) -> u16
     ensures { result ≡ entry_number entry.now }
 {
     get2(entry, 0)
 }
 
+#[tactic(auto, unfolding(crate::specs::Positions::entry_position))]
 pub fn entry_position(entry: &[u8]) -> u32
     ensures { result ≡ entry_position entry.now }
 {
@@ -26,12 +28,14 @@ pub fn entry_position(entry: &[u8]) -> u32
 }
 
 // The same of entry k of a book.
+#[tactic(auto, unfolding(rules::specs::Layout::pile_number))]
 pub fn pile_number(book: &[u8], k: u8) -> u16
     ensures { result ≡ pile_number book.now k }
 {
     get2(book, entry_at(k))
 }
 
+#[tactic(auto, unfolding(rules::specs::Layout::position))]
 pub fn position(book: &[u8], k: u8) -> u32
     ensures { result ≡ position book.now k }
 {
@@ -39,6 +43,7 @@ pub fn position(book: &[u8], k: u8) -> u32
 }
 
 // Writes a head at the start of a buffer; refused with 8 where it has no room, and nothing is written then.
+#[tactic(auto, unfolding(rules::specs::Layout::head_bytes, crate::specs::Positions::put_head_answer, crate::specs::Positions::after_put_head, rules::proofs::Cases::Table::open_refusals))]
 pub fn put_head(out: &mut [u8], head: Head) -> Result<(), Refusal>
     ensures answer { answered result ≡ put_head_answer out.old }
     ensures out { out.new ≡ after_put_head (as_head head) out.old }

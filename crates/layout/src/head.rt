@@ -25,6 +25,7 @@ pub struct Head {
 }
 
 // The head of a book; all zeros where there are fewer than 4 bytes.
+#[tactic(auto, unfolding(crate::specs::Positions::head_in))]
 pub fn head_of(book: &[u8]) -> Head
     ensures { as_head result ≡ head_in book.now }
 {
@@ -57,6 +58,7 @@ pub fn head_for(n: u8, p: u8) -> Head
 }
 
 // 1 to 8 desks, 1 to 32 piles.
+#[tactic(auto, unfolding(rules::specs::Layout::sizes_in_range, rules::proofs::Cases::Table::open_loops))]
 pub fn sizes_in_range(n: u8, p: u8) -> bool
     ensures { result ≡ sizes_in_range n p }
 {
@@ -64,6 +66,7 @@ pub fn sizes_in_range(n: u8, p: u8) -> bool
 }
 
 // Version 1, sizes in range, 0.
+#[tactic(auto, unfolding(rules::specs::Book::head_sound, rules::proofs::Cases::Table::open_loops))]
 pub fn head_sound(head: Head) -> bool
     ensures { result ≡ head_sound (as_head head) }
 {
@@ -78,6 +81,7 @@ pub fn entry_at(k: u8) -> usize
 }
 
 // All before the bodies.
+#[tactic(auto, unfolding(rules::specs::Layout::front_length))]
 pub fn front_length(head: Head) -> usize
     ensures { result ≡ front_length (as_head head) }
 {
@@ -85,6 +89,7 @@ pub fn front_length(head: Head) -> usize
 }
 
 // Where body k starts; the book ends where a body p would. Of desks that no book has a body has no length.
+#[tactic(auto, unfolding(crate::specs::Positions::body_position))]
 pub fn body_at(head: Head, k: u8) -> usize
     ensures { result ≡ body_position (as_head head) k }
 {
@@ -99,6 +104,7 @@ pub fn rows_of(head: Head) -> usize
 }
 
 // What a buffer for a book of n desks and p piles must hold: 0 where there is no such book.
+#[tactic(auto, using(crate::proofs::Positions::position_is, rules::proofs::File::Readable::sizes_range), unfolding(rules::specs::Opening::buffer_length, rules::specs::Layout::book_length))]
 pub fn book_length(n: u8, p: u8) -> usize
     ensures { result ≡ buffer_length n p }
 {

@@ -33,6 +33,7 @@ pub fn body_length(n: u8) -> usize
 }
 
 // The length of a row of n desks: two numbers, and one of each side for each desk.
+#[tactic(auto, unfolding(rules::specs::Layout::row_length))]
 pub fn row_length(n: u8) -> usize
     ensures { result ≡ row_length n }
 {

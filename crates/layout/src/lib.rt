@@ -6,3 +6,4 @@ pub mod contents;
 pub mod head;
 pub mod lengths;
 pub mod limits;
+pub mod side;

@@ -6,8 +6,17 @@ ghost use Rattle.rules.specs.Record.{record_act_answer, record_after_act};
 ghost use Rattle.pile.specs.View.{as_record};
 ghost use Rattle.refusal.specs.Answers.{answered};
 
-use pile::Pile;
+use pile::{Outcome, Pile};
 use refusal::Refusal;
+
+// The record after an act goes where the one before it was lent from, and the answer to the caller.
+fn hand_back(pile: &mut Pile, outcome: Outcome) -> Result<(), Refusal>
+    ensures answer { result ≡ outcome.answer }
+    ensures pile { pile.new ≡ outcome.pile }
+{
+    *pile = outcome.pile;
+    outcome.answer
+}
 
 // A desk tips onto the lent pile; refused with 2, 5, 6, 7, 11, 13, 14 or 15, and then the record is unaltered.
 pub fn tip(pile: &mut Pile, desk: u8, amount: u32) -> Result<(), Refusal>
@@ -15,8 +24,7 @@ pub fn tip(pile: &mut Pile, desk: u8, amount: u32) -> Result<(), Refusal>
     ensures pile { as_record pile.new ≡ record_after_act desk (spend side.tip) amount (as_record pile.old) }
 {
     let outcome = (*pile).tip(desk, amount);
-    *pile = outcome.pile;
-    outcome.answer
+    hand_back(pile, outcome)
 }
 
 // A desk draws from the lent pile; refused with 2, 5, 6, 7, 11, 13, 14 or 15, and then the record is unaltered.
@@ -25,8 +33,7 @@ pub fn draw(pile: &mut Pile, desk: u8, amount: u32) -> Result<(), Refusal>
     ensures pile { as_record pile.new ≡ record_after_act desk (spend side.draw) amount (as_record pile.old) }
 {
     let outcome = (*pile).draw(desk, amount);
-    *pile = outcome.pile;
-    outcome.answer
+    hand_back(pile, outcome)
 }
 
 // A desk gives draw rights of the lent pile; refused with 2, 5, 6, 7 or 11 to 15, and then the record is unaltered.
@@ -35,8 +42,7 @@ pub fn give_draw(pile: &mut Pile, desk: u8, receiver: u8, amount: u32) -> Result
     ensures pile { as_record pile.new ≡ record_after_act desk (give side.draw receiver) amount (as_record pile.old) }
 {
     let outcome = (*pile).give_draw(desk, receiver, amount);
-    *pile = outcome.pile;
-    outcome.answer
+    hand_back(pile, outcome)
 }
 
 // A desk gives tip rights of the lent pile; refused with 2, 5, 6, 7 or 11 to 15, and then the record is unaltered.
@@ -45,6 +51,5 @@ pub fn give_tip(pile: &mut Pile, desk: u8, receiver: u8, amount: u32) -> Result<
     ensures pile { as_record pile.new ≡ record_after_act desk (give side.tip receiver) amount (as_record pile.old) }
 {
     let outcome = (*pile).give_tip(desk, receiver, amount);
-    *pile = outcome.pile;
-    outcome.answer
+    hand_back(pile, outcome)
 }

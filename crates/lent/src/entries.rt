@@ -16,7 +16,8 @@ pub struct Entry {
     pub position: u32,
 }
 
-// The contents of a book, in its order; refused with 1 to 7 or, where the list is shorter than the contents, 8. Entries past the contents stay, and all of a refused call.
+// The contents of a book, in its order; refused with 1 to 7 or, where the list is shorter than the contents, 8. Entries past the contents stay, and all of
+// them where it is refused.
 pub fn contents(book: &[u8], entries: &mut [Entry]) -> Result<(), Refusal>
     ensures answer { answered result ≡ contents_answer book.now (length entries.old) }
     ensures entries { entries.new ≡ after_contents entry_of book.now entries.old }

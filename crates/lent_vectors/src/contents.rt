@@ -7,6 +7,7 @@ ghost use Rattle.lent.specs.Entries.{entry_of};
 use lent::{Entry, contents};
 use refusal::Refusal;
 
+// The answer, and the list beside it: what is shown of a refused call is that it stays.
 pub(crate) fn filled<const N: usize>(
     book: &[u8],
     start: [Entry; N],

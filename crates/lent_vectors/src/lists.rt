@@ -1,22 +1,21 @@
 // The longest book, of 32 piles: its contents in 34 lent entries and in 31, and the same of a book that is refused. Each line has the call, its
 // answer, and some of the lent entries after it: the first two, the last that is filled, and those past the contents.
 use crate::contents::filled;
+use layout::lengths::LONGEST_BOOK;
 use lent::Entry;
 use opening::open;
 use refusal::{Refusal, answer};
 use samples::longest_list;
 use std::io;
 
-const LENGTH: usize = 20932;
-
 // What every lent entry is before a call.
 const NUMBER: u16 = 65535;
 
 const POSITION: u32 = 4294967295;
 
-fn opened(rt: &impl Print) -> io::Result<[u8; LENGTH]> {
+fn opened(rt: &impl Print) -> io::Result<[u8; LONGEST_BOOK]> {
     let numbers = longest_list();
-    let mut book = [0u8; LENGTH];
+    let mut book = [0u8; LONGEST_BOOK];
     let told = open(8, 32, &numbers, &mut book);
     println!(rt; "open the longest book: {}", answer(told))?;
     Ok(book)

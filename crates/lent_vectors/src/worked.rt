@@ -2,15 +2,12 @@
 // Each line has the act, its answer, and then the tonnage and the draw and tip rights of desks 0, 1 and 2 of the record that came back.
 use crate::acts::{draw_given, drawn, tip_given, tipped, worked};
 use pile::{Outcome, Pile};
-use samples::line;
+use samples::{line, made};
 use std::io;
 
 fn opened(rt: &impl Print) -> io::Result<Pile> {
     let shares = [0, 0, 0, 0, 0, 0, 0, 0, 40, 30, 30, 0, 0, 0, 0, 0];
-    let fresh = Pile::fresh(3, 10, 110, shares);
-    let pile = fresh.unwrap_or(Pile::zero());
-    let answer = fresh.map(|_| ());
-    line(rt, "F", Outcome { answer, pile })
+    line(rt, "F", made(Pile::fresh(3, 10, 110, shares)))
 }
 
 // The seven acts one by one, with cases b and d refused first.

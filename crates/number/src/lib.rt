@@ -1,41 +1,28 @@
 // Numbers in a byte slice: unsigned, low byte first, 2 and 4 bytes wide.
 #![tactic(auto)]
 
-ghost use Rattle.std.specs.Prelude.{◌≡◌, ◌+◌, ◌*◌, ◌≤◌, ltb, length};
+ghost use Rattle.std.specs.Prelude.{◌≡◌, ◌+◌, ltb, length};
 ghost use Rattle.std.proofs.lemmas.List.Edits.{sets};
+ghost use Rattle.rules.specs.Refusals.{◌when◌, done};
 ghost use Rattle.rules.specs.Numbers.{number, bytes, put_answer, after_put};
 ghost use Rattle.refusal.specs.Answers.{answered};
 
 use refusal::Refusal;
 
-// Whether w bytes at a position run past the end of len bytes. at + w itself may not fit a usize.
-fn short(len: usize, at: usize, w: usize) -> bool
-    ensures { result ≡ ltb len (at + w) }
+// Whether count places from one on run past the end of len. at + count itself may not fit a usize.
+pub fn runs_past(len: usize, at: usize, count: usize) -> bool
+    ensures { result ≡ ltb len (at + count) }
 {
-    len < w || len - w < at
-}
-
-// A number of its low and its high half.
-fn of_pairs(low: u16, high: u16) -> u32
-    ensures { result ≡ low + 65536 * high }
-{
-    u32::from(low) + 65536 * u32::from(high)
-}
-
-// The number of the 2 bytes at a position, which are there.
-fn pair(s: &[u8], at: usize) -> u16
-    requires { at + 2 ≤ length s.now }
-    ensures { result ≡ number 2 s.now at }
-{
-    u16::from_le_bytes([s[at], s[at + 1]])
+    len < count || len - count < at
 }
 
 // The number at a position, in 2 bytes and in 4. Bytes past the end count as 0.
+#[tactic(auto, using(crate::proofs::Laws::number_past), unfolding(rules::specs::Numbers::number))]
 pub fn get2(s: &[u8], at: usize) -> u16
     ensures { result ≡ number 2 s.now at }
 {
-    if !short(s.len(), at, 2) {
-        return pair(s, at);
+    if !runs_past(s.len(), at, 2) {
+        return u16::from_le_bytes([s[at], s[at + 1]]);
     }
     if at < s.len() {
         return u16::from_le_bytes([s[at], 0]);
@@ -43,47 +30,45 @@ pub fn get2(s: &[u8], at: usize) -> u16
     0
 }
 
+#[tactic(auto, using(crate::proofs::Laws::number_bytes, crate::proofs::Laws::number_halves, crate::proofs::Laws::number_past))]
 pub fn get4(s: &[u8], at: usize) -> u32
     ensures { result ≡ number 4 s.now at }
 {
-    if !short(s.len(), at, 4) {
-        return of_pairs(pair(s, at), pair(s, at + 2));
+    if !runs_past(s.len(), at, 4) {
+        return u32::from_le_bytes([s[at], s[at + 1], s[at + 2], s[at + 3]]);
     }
     if at < s.len() {
-        return of_pairs(get2(s, at), get2(s, at + 2));
+        return u32::from(get2(s, at)) + 65536 * u32::from(get2(s, at + 2));
     }
     0
 }
 
-// Writes the 2 low bytes of x over the 2 bytes at a position, which are there.
-fn put_pair(s: &mut [u8], at: usize, x: u32)
-    requires { at + 2 ≤ length s.old }
-    ensures { s.new ≡ sets s.old at (bytes 2 x) }
+// Writes N bytes at a position. Where they run past the end it is refused with 8, and nothing is written.
+#[tactic(auto, using(crate::proofs::Parts::back_in_place), unfolding(rules::proofs::Cases::Table::open_refusals))]
+fn put<const N: usize>(s: &mut [u8], at: usize, x: [u8; N]) -> Result<(), Refusal>
+    ensures answer { answered result ≡ 8 when ltb (length s.old) (at + N) }
+    ensures bytes { s.new ≡ done (8 when ltb (length s.old) (at + N)) (sets s.old at x.entry) s.old }
 {
-    s[at] = (x % 256) as u8;
-    s[at + 1] = (x / 256 % 256) as u8;
+    if runs_past(s.len(), at, N) {
+        return Err(Refusal::BufferShort);
+    }
+    s[at..at + N].copy_from_slice(&x);
+    Ok(())
 }
 
-// Writes a number at a position, in 2 bytes and in 4. Where it runs past the end it is refused with 8, and nothing is written.
+// Writes a number at a position, in 2 bytes and in 4.
+#[tactic(auto, unfolding(rules::specs::Numbers::bytes, rules::specs::Numbers::put_answer, rules::specs::Numbers::after_put, rules::proofs::Cases::Table::open_refusals))]
 pub fn put2(s: &mut [u8], at: usize, x: u16) -> Result<(), Refusal>
     ensures answer { answered result ≡ put_answer 2 s.old at }
     ensures bytes { s.new ≡ after_put 2 s.old at x }
 {
-    if short(s.len(), at, 2) {
-        return Err(Refusal::BufferShort);
-    }
-    put_pair(s, at, u32::from(x));
-    Ok(())
+    put::<2>(s, at, x.to_le_bytes())
 }
 
+#[tactic(auto, using(crate::proofs::Laws::four_bytes), unfolding(rules::specs::Numbers::put_answer, rules::specs::Numbers::after_put, rules::proofs::Cases::Table::open_refusals))]
 pub fn put4(s: &mut [u8], at: usize, x: u32) -> Result<(), Refusal>
     ensures answer { answered result ≡ put_answer 4 s.old at }
     ensures bytes { s.new ≡ after_put 4 s.old at x }
 {
-    if short(s.len(), at, 4) {
-        return Err(Refusal::BufferShort);
-    }
-    put_pair(s, at, x);
-    put_pair(s, at + 2, x / 65536);
-    Ok(())
+    put::<4>(s, at, x.to_le_bytes())
 }

@@ -1,24 +1,43 @@
--- The list that a book is opened from: where pile k and its numbers stand in it.
+-- The list that a book is opened from: the numbers from where pile k starts are those of pile k.
 -- Assumes nothing.
-use Prim.Native.Nat.{ℕ, ◌+◌, ◌*◌, ◌≤◌, ◌<◌}
-use native.Mathlib.Nat.{add-zero, mul-le-mul_right}
+use Prim.Native.Nat.{ℕ, ◌+◌, ◌-◌, ◌*◌}
 use native.Mathlib.Omega.{arith}
-use mathlib.Core.Path.{◌≡◌, ap, sym, ◌∙◌}
+use mathlib.Core.Path.{◌≡◌, ap, ◌∙◌, fun_ext}
 use mathlib.Core.List.{List}
-use lib.ListN.{length, get_or}
-use Rattle.rules.specs.Opening.{given}
-use Rattle.opening.specs.declared.given.Given.{Given}
+use lib.ListN.{length, drop, length-drop, get_or}
+use lib.Seq.{take_all, get_or-drop}
+use Rattle.std.specs.Prelude.{take}
+use Rattle.rules.specs.Pile.{Pile}
+use Rattle.rules.specs.Layout.{column}
+use Rattle.rules.specs.Opening.{given, given_pile}
 
--- by where the numbers of pile k start
-module _ (n k : ℕ) {place : ℕ} (is : place ≡ k * (3 + 2 * n)) where
-  pub given_at : (l : List ℕ) (c : ℕ) → get_or l (place + c) 0 ≡ given n l k c
+-- the numbers from one on
+abbrev rest : ℕ → List ℕ → List ℕ
+rest at l = take (length l - at) (drop at l)
+
+module _ (n : ℕ) (l : List ℕ) where
+  -- what stands at the start of a list is the first pile's
+  pub given_first : (c : ℕ) → get_or l c 0 ≡ given n l 0 c
   unfolding given
-  given_at l c = ap (λ (j : ℕ). get_or l (j + c) 0) is
+  given_first c = ap (λ (j : ℕ). get_or l j 0) (omega arith)
 
-  -- the pile's own number is the first of them
-  pub given_number : (l : List ℕ) → get_or l place 0 ≡ given n l k 0
-  given_number l = ap (λ (j : ℕ). get_or l j 0) (sym (add-zero place)) ∙ given_at l 0
+  module _ (k : ℕ) where
+    abbrev place : ℕ
+    place = k * (3 + 2 * n)
 
--- and all of them are there
-pub pile_there : (g : Given) (k : ℕ) {place : ℕ} → place ≡ k * (3 + 2 * g.desks) → k < g.piles → place + (3 + 2 * g.desks) ≤ length g.numbers.now
-pile_there g k is k<p = omega (arith, is, g.long, mul-le-mul_right (3 + 2 * g.desks) k<p)
+    given_from : (c : ℕ) → given n (rest place l) 0 c ≡ given n l k c
+    unfolding given
+    given_from c =
+        ap (λ (j : ℕ). get_or (rest place l) j 0) (omega arith)
+        ∙ ap (λ (m : List ℕ). get_or m c 0) (take_all (length l - place) (drop place l) (omega (arith, length-drop place l)))
+        ∙ get_or-drop place l c 0
+
+    pub number_from : given n (rest place l) 0 0 ≡ given n l k 0
+    number_from = given_from 0
+
+    pub pile_from : given_pile n (rest place l) 0 ≡ given_pile n l k
+    unfolding given_pile
+    pile_from = ap pile_of (fun_ext given_from)
+      where
+        pile_of : (ℕ → ℕ) → Pile
+        pile_of f = record { floor = f 1; top = f 2; share = λ s i. f (1 + column n s i); earned = λ s i. 0; give = λ s i j. 0 }

@@ -6,6 +6,7 @@ use Rattle.rules.specs.Pile.{Pile, opening_lawful}
 use Rattle.rules.specs.Layout.{Head, head_for, front_length, book_length}
 use Rattle.rules.specs.Opening.{rising, given, given_pile}
 use Rattle.opening.specs.declared.given.Given.{Given}
+use Rattle.opening.specs.declared.given.GivenPile.{GivenPile}
 
 -- the number of pile k of the list, its opening, and the head of the book
 abbrev pub number_in : Given → ℕ → ℕ
@@ -17,7 +18,14 @@ pile_in g = given_pile g.desks g.numbers.now
 abbrev pub book_head : Given → Head
 book_head g = head_for g.desks g.piles
 
--- its sizes and numbers are those that were handed over
+-- the number of a pile taken from the list, and its opening
+abbrev pub own_number : GivenPile → ℕ
+own_number p = given p.desks p.numbers.now 0 0
+
+abbrev pub own_pile : GivenPile → Pile
+own_pile p = given_pile p.desks p.numbers.now 0
+
+-- the list's sizes and numbers are those that were handed over
 pub record IsGiven (g : Given) (n p : ℕ) (l : List ℕ) : Type 0 where
   pub desks_are : g.desks ≡ n
   pub piles_are : g.piles ≡ p

@@ -18,7 +18,7 @@ fn put_contents(out: &mut [u8], given: &Given)
 {
     let head = given.head();
     for k in 0..given.piles {
-        put_entry(out, head, k, given.number(k) as u16).unwrap();
+        put_entry(out, head, k, given.pile(k).number() as u16).unwrap();
     }
 }
 
@@ -39,7 +39,7 @@ pub(crate) fn put_bodies(out: &mut [u8], given: &Given)
     let size = body_length(given.desks);
     let mut at = front_length(given.head());
     for k in 0..given.piles {
-        let pile = given.pile(k).unwrap();
+        let pile = given.pile(k).record().unwrap();
         pack(&pile.numbers(), out, at).unwrap();
         at += size;
     }

@@ -25,6 +25,16 @@ pub(crate) struct Given<'a> {
     ghost long: { length numbers.now ≡ piles * (3 + 2 * desks) },
 }
 
+// What the list has for one pile. The numbers start with it, and it is of 1 to 8 desks.
+#[derive(Clone, Copy)]
+pub(crate) struct GivenPile<'a> {
+    numbers: &'a [u32],
+    desks: u8,
+    ghost desks_least: { 1 ≤ desks },
+    ghost desks_most: { desks ≤ desk_limit },
+    ghost whole: { 3 + 2 * desks ≤ length numbers.now },
+}
+
 // How many numbers the list has for a pile.
 pub(crate) fn pile_size(desks: u8) -> usize
     ensures { result ≡ 3 + 2 * desks }
@@ -33,7 +43,7 @@ pub(crate) fn pile_size(desks: u8) -> usize
 }
 
 impl<'a> Given<'a> {
-    ghost use Rattle.opening.specs.Inner.{number_in, pile_in, book_head};
+    ghost use Rattle.opening.specs.Inner.{number_in, pile_in, book_head, own_number, own_pile};
 
     // The head of the book.
     pub(crate) fn head(&self) -> Head
@@ -42,47 +52,48 @@ impl<'a> Given<'a> {
         head_for(self.desks, self.piles)
     }
 
-    // Where the numbers of pile k start.
-    fn place(&self, k: u8) -> usize
-        ensures { result ≡ k * (3 + 2 * self.now.desks) }
+    // Pile k of the list.
+    #[tactic(auto, using(crate::proofs::GivenList::number_from, crate::proofs::GivenList::pile_from))]
+    pub(crate) fn pile(&self, k: u8) -> GivenPile<'a>
+        requires { k < self.now.piles }
+        ensures desks { result.desks ≡ self.now.desks }
+        ensures number { own_number result ≡ number_in self.now k }
+        ensures pile { own_pile result ≡ pile_in self.now k }
     {
-        usize::from(k) * pile_size(self.desks)
+        GivenPile {
+            numbers: &self.numbers[usize::from(k) * pile_size(self.desks)..],
+            desks: self.desks,
+        }
+    }
+}
+
+impl<'a> GivenPile<'a> {
+    ghost use Rattle.opening.specs.Inner.{own_number, own_pile};
+
+    // The number of the pile.
+    #[tactic(auto, using(crate::proofs::GivenList::given_first))]
+    pub(crate) fn number(self) -> u32
+        ensures { result ≡ own_number self.entry }
+    {
+        self.numbers[0]
     }
 
-    // The number of pile k.
-    pub(crate) fn number(&self, k: u8) -> u32
-        requires { k < self.now.piles }
-        ensures { result ≡ number_in self.now k }
+    // Its shares, as a record has them.
+    fn shares(self) -> [u32; SHARES]
+        ensures { result ≡ (record_of self.entry.desks (own_pile self.entry)).shares }
     {
-        self.numbers[self.place(k)]
-    }
-
-    // The shares of pile k, as a record has them.
-    fn shares(&self, k: u8) -> [u32; SHARES]
-        requires { k < self.now.piles }
-        ensures { result ≡ (record_of self.now.desks (pile_in self.now k)).shares }
-    {
-        let from = self.place(k) + 3;
         let count = usize::from(self.desks);
         let mut shares = [0u32; SHARES];
-        copy_run(&mut shares, 0, self.numbers, from, count).unwrap();
-        copy_run(&mut shares, DESKS, self.numbers, from + count, count).unwrap();
+        copy_run(&mut shares, 0, self.numbers, 3, count).unwrap();
+        copy_run(&mut shares, DESKS, self.numbers, 3 + count, count).unwrap();
         shares
     }
 
-    // Pile k as a fresh record, or 5.
-    pub(crate) fn pile(&self, k: u8) -> Result<Pile, Refusal>
-        requires { k < self.now.piles }
-        ensures answer { answered result ≡ 5 when not (opening_lawful self.now.desks (pile_in self.now k)) }
-        ensures pile { IfOk result (λ pile. as_record pile ≡ record_of self.now.desks (pile_in self.now k)) }
+    // The pile as a fresh record, or 5.
+    pub(crate) fn record(self) -> Result<Pile, Refusal>
+        ensures answer { answered result ≡ 5 when not (opening_lawful self.entry.desks (own_pile self.entry)) }
+        ensures pile { IfOk result (λ pile. as_record pile ≡ record_of self.entry.desks (own_pile self.entry)) }
     {
-        let shares = self.shares(k);
-        let at = self.place(k);
-        Pile::fresh(
-            self.desks,
-            self.numbers[at + 1],
-            self.numbers[at + 2],
-            shares,
-        )
+        Pile::fresh(self.desks, self.numbers[1], self.numbers[2], self.shares())
     }
 }

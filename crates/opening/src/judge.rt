@@ -12,12 +12,13 @@ use layout::limits::LAST_NUMBER;
 use refusal::Refusal;
 
 // Do the pile numbers rise from above 0, none above the highest?
+#[tactic(auto, using(rules::proofs::File::Risen::not_risen))]
 fn numbers_rise(given: &Given) -> bool
     ensures { result ≡ rising given.now.piles (number_in given.now) }
 {
     let mut last: u32 = 0;
     for k in 0..given.piles {
-        let number = given.number(k);
+        let number = given.pile(k).number();
         if number <= last || LAST_NUMBER < number {
             return false;
         }
@@ -31,12 +32,13 @@ fn openings_answer(given: &Given) -> Result<(), Refusal>
     ensures { answered result ≡ first given.now.piles (λ k. 5 when not (opening_lawful given.now.desks (pile_in given.now k))) }
 {
     for k in 0..given.piles {
-        given.pile(k)?;
+        given.pile(k).record()?;
     }
     Ok(())
 }
 
 // The list, where no line of the table refuses its opening. They are asked in their order.
+#[tactic(auto, using(refusal::proofs::Refused::refusals), unfolding(rules::specs::Opening::opening_answer, rules::specs::Opening::buffer_length, rules::proofs::Cases::Table::open_refusals))]
 pub(crate) fn accepted<'a>(
     n: u8,
     p: u8,

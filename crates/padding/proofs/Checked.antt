@@ -18,7 +18,9 @@ use Rattle.rules.specs.Numbers.{part}
 use Rattle.rules.specs.Pile.{Side, draw, tip, Pile, opening_lawful, tallies_lawful, lawful, pile_answer}
 use Rattle.rules.specs.Layout.{desk_limit, column, body_length, body_view, body_bytes}
 use Rattle.rules.specs.Record.{Record, record_cell, record_view, record_answer, row_places, unused_shares, unused_places}
-use Rattle.rules.proofs.Loops.Logic.{and_left, and_right}
+use Rattle.rules.proofs.Loops.Logic.{and_right, in_range}
+use Rattle.rules.proofs.File.BodySize.{size_in_range}
+use Rattle.refusal.proofs.Refused.{refusals}
 use Rattle.rules.proofs.Loops.Refusals.{when_not_done, or_else_passes, or_else_first, or_else_rest, when_accepted}
 use Rattle.rules.proofs.Loops.Sets.{part_sets}
 use Rattle.rules.proofs.Pile.Agree.{Agree, answer_cong}
@@ -86,21 +88,11 @@ module _ (l : List ℕ) where
   abbrev inside : Bool
   inside = between 1 desk_limit (get_or l 0 0)
 
-  pub pack_sized : pack_answer l 0 648 ≡ 0 → length l ≡ record_length
+  pub pack_told : pack_answer l 0 648 ≡ 0 → (length l ≡ record_length) × (1 ≤ get_or l 0 0) × (get_or l 0 0 ≤ 8)
   unfolding pack_answer
-  pack_sized e = eqb-true _ _ (when_not_done 2 _ (or_else_first _ _ e))
-
-  pack_inside : pack_answer l 0 648 ≡ 0 → inside ≡ true
-  unfolding pack_answer
-  pack_inside e = when_not_done 1 _ (or_else_first _ _ (or_else_rest _ _ e))
-
-  pub pack_some : pack_answer l 0 648 ≡ 0 → 1 ≤ get_or l 0 0
-  unfolding between
-  pack_some e = leb-true _ _ (and_left _ _ (pack_inside e))
-
-  pub pack_few : pack_answer l 0 648 ≡ 0 → get_or l 0 0 ≤ 8
-  unfolding between
-  pack_few e = leb-true _ _ (and_right _ _ (pack_inside e))
+  pack_told e =
+      let range = in_range 1 desk_limit _ (when_not_done 1 _ (or_else_first _ _ (or_else_rest _ _ e))) in
+      (eqb-true _ _ (when_not_done 2 _ (or_else_first _ _ e)), range.0, range.1)
 
   room : inside ≡ true → 0 + body_length (get_or l 0 0) ≤ 648
   unfolding between
@@ -112,8 +104,11 @@ module _ (l : List ℕ) where
   shape true false sized out e d = rw (sized, out) at e ∙ sym (rw (sized, out))
   shape true true sized within e d = absurd (d (rw (sized, within, le-ltb _ _ (room within)) at e))
 
-  pub shape_refused : {m : ℕ} → m ≡ pack_answer l 0 648 → m ≢ 0 → m ≡ list_answer l
-  shape_refused = shape _ _ refl refl
+  pub shape_refused : pack_answer l 0 648 ≢ 0 → pack_answer l 0 648 ≡ list_answer l
+  shape_refused = shape _ _ refl refl refl
+
+-- what tells a `grind` of a list that is packed, or is not
+pub ruleset packs = (refusals, pack_told, shape_refused, size_in_range, body_most)
 
 -- the bytes of the body that a list packs to
 packed_bytes_lem : (l : List ℕ) → get_or l 0 0 ≤ 8 → {body : List ℕ} → body ≡ after_pack l 0 (replicate 648 0) → pack_answer l 0 648 ≡ 0
@@ -135,7 +130,7 @@ module _ (l : List ℕ) (passes : list_answer l ≡ 0) where
   list_facts = record_facts R (or_else_rest _ _ passes)
 
   list_packs : pack_answer l 0 648 ≡ 0
-  list_packs = by_cases (ℕ_discrete (pack_answer l 0 648) 0) (λ z. z) (λ d. shape_refused l refl d ∙ passes)
+  list_packs = by_cases (ℕ_discrete (pack_answer l 0 648) 0) (λ z. z) (λ d. shape_refused l d ∙ passes)
 
   pub packed_agrees : {body : List ℕ} → body ≡ after_pack l 0 (replicate 648 0) → Agree (get_or l 0 0) (body_view (get_or l 0 0) body 0) (record_view R)
   unfolding numbers_record
@@ -149,8 +144,11 @@ module _ (l : List ℕ) (small : (k : ℕ) → get_or l k 0 < 4294967296) (packs
   abbrev P : Pile
   P = record_view (numbers_record l)
 
+  some : 1 ≤ n
+  some = (pack_told l packs).1
+
   few : n ≤ 8
-  few = pack_few l packs
+  few = (pack_told l packs).2
 
   cell_small : (r c : ℕ) → r < 9 → c < row_places → record_cell (numbers_record l) r c < 4294967296
   cell_small r c r<9 c<row = rw (record_cell_lem l r c r<9 c<row) (small _)
@@ -173,7 +171,7 @@ module _ (l : List ℕ) (small : (k : ℕ) → get_or l k 0 < 4294967296) (packs
   module _ {body : List ℕ} {size m : ℕ} (packed : body ≡ after_pack l 0 (replicate 648 0)) (is : size ≡ body_length n)
       (judged : m ≡ bodies_answer n 1 0 (part 0 size body)) where
     written : part 0 size body ≡ body_bytes n P
-    written = rw is (packed_bytes_lem l (pack_few l packs) packed packs)
+    written = rw is (packed_bytes_lem l (few) packed packs)
 
     at_start : part (0 + 0 * body_length n) (body_length n) (part 0 size body) ≡ body_bytes n P
     at_start =
@@ -184,28 +182,35 @@ module _ (l : List ℕ) (small : (k : ℕ) → get_or l k 0 < 4294967296) (packs
     unfolding bodies_answer first ◌or_else◌
     body_answer =
         judged
-        ∙ or_else_passes (sym (shape_fits n 1 0 (length (part 0 size body)) (pack_some l packs, pack_few l packs) (lit≤ tt) (ap length written ∙ length_body n P ∙ omega arith))) _
+        ∙ or_else_passes (sym (shape_fits n 1 0 (length (part 0 size body)) (some, few) (lit≤ tt) (ap length written ∙ length_body n P ∙ omega arith))) _
         ∙ answer_cong n _ P (read_body n P fits (part 0 size body) (0 + 0 * body_length n) at_start)
 
   -- the lines of a list's table
   module _ {m : ℕ} (is : m ≡ pile_answer n P) where
     as_record_lem : list_answer l ≡ record_lines (opening_lawful n P) (unused_shares n P) (every n (tallies_lawful n P)) (unused_places n P) (lawful n P)
     unfolding list_answer record_answer numbers_record between ◌when◌ ◌or_else◌ ◌and◌
-    as_record_lem = rw (eq-eqb _ _ (pack_sized l packs), le-leb _ _ (pack_some l packs), le-leb _ _ few)
+    as_record_lem = rw (eq-eqb _ _ ((pack_told l packs).0), le-leb _ _ (some), le-leb _ _ few)
 
     pub unlawful_opening : m ≡ 5 → 5 ≡ list_answer l
     unfolding pile_answer
     unlawful_opening e = opening_5 (opening_lawful n P) _ (every n (tallies_lawful n P)) _ (lawful n P) (sym is ∙ e) ∙ sym as_record_lem
 
-    pub share_left : {desks : ℕ} → desks ≡ n → unused_shares desks P ≡ false → 5 ≡ list_answer l
-    share_left same e = rw (as_record_lem, rw same at e) (shares_5 (opening_lawful n P) (every n (tallies_lawful n P)) (unused_places n P) (lawful n P))
+    -- the places past n were looked at in an array of the list's numbers
+    module _ {desks : ℕ} (same : desks ≡ n) {array : List ℕ} (all : array ≡ l) where
+      abbrev A : Pile
+      A = record_view (numbers_record array)
 
-    module _ (other : m ≢ 5) {desks : ℕ} (same : desks ≡ n) (none : unused_shares desks P ≡ true) where
-      pub place_left : unused_places desks P ≡ false → 6 ≡ list_answer l
-      unfolding pile_answer
-      place_left e =
-          rw (as_record_lem, rw same at none, rw same at e) (places_6 (opening_lawful n P) (every n (tallies_lawful n P)) (lawful n P) (λ z. other (is ∙ z)))
+      pub share_left : unused_shares desks A ≡ false → 5 ≡ list_answer l
+      share_left e = rw (as_record_lem, rw (same, all) at e) (shares_5 (opening_lawful n P) (every n (tallies_lawful n P)) (unused_places n P) (lawful n P))
 
-      pub as_body : unused_places desks P ≡ true → m ≡ list_answer l
-      unfolding pile_answer
-      as_body e = rw (as_record_lem, rw same at none, rw same at e) (is ∙ all_used (opening_lawful n P) (every n (tallies_lawful n P)) (lawful n P))
+      module _ (other : m ≢ 5) (none : unused_shares desks A ≡ true) where
+        pub place_left : unused_places desks A ≡ false → 6 ≡ list_answer l
+        unfolding pile_answer
+        place_left e =
+            rw (as_record_lem, rw (same, all) at none, rw (same, all) at e)
+            (places_6 (opening_lawful n P) (every n (tallies_lawful n P)) (lawful n P) (λ z. other (is ∙ z)))
+
+        pub as_body : unused_places desks A ≡ true → m ≡ list_answer l
+        unfolding pile_answer
+        as_body e =
+            rw (as_record_lem, rw (same, all) at none, rw (same, all) at e) (is ∙ all_used (opening_lawful n P) (every n (tallies_lawful n P)) (lawful n P))

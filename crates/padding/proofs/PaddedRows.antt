@@ -49,7 +49,6 @@ module _ (n : ℕ) (cell : ℕ → ℕ → ℕ) where
 
   -- the first rows are in the list, and the rest of it is 0
   pub record Rows (m : ℕ) (l : List ℕ) : Type 0 where
-    pub counted : m ≤ n + 1
     pub long : length l ≡ suc desk_limit * row_places
     pub cells : (r c : ℕ) → r < m → c < row_places → get_or l (r * row_places + c) 0 ≡ record_cell wide r c
     pub rest : (k : ℕ) → m * row_places ≤ k → k < suc desk_limit * row_places → get_or l k 0 ≡ 0
@@ -57,7 +56,6 @@ module _ (n : ℕ) (cell : ℕ → ℕ → ℕ) where
   pub no_rows : {l : List ℕ} → l ≡ replicate (suc desk_limit * row_places) 0 → Rows 0 l
   no_rows zeros =
       record {
-        counted = omega arith;
         long = ap length zeros ∙ length-replicate {A = ℕ} (suc desk_limit * row_places) 0;
         cells = λ r c l. absurd (not-suc-le-zero l);
         rest = λ k _ l. ap (λ (l : List ℕ). get_or l k 0) zeros ∙ get_or-replicate (suc desk_limit * row_places) k 0 0 l;
@@ -89,7 +87,6 @@ module _ (n : ℕ) (cell : ℕ → ℕ → ℕ) where
         → Rows (r + 1) (sets (sets l (r * row_places) (list (2 + n) f)) (r * row_places + tips_place) (list n g))
     next_row {l} r f g r≤n rows firsts tips =
         record {
-          counted = omega arith;
           long = length-sets half (r * row_places + tips_place) (list n g) ∙ half_long;
           cells = λ k c k≤r c<18. below_more (λ k. get_or all (k * row_places + c) 0 ≡ record_cell wide k c) r
               (λ k k<r. before k c k<r c<18 ∙ rows.cells k c k<r c<18) (own c c<18) k k≤r;

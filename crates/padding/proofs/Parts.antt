@@ -2,10 +2,10 @@
 -- Assumes nothing.
 use Prim.Native.Nat.{ℕ, ◌+◌, ◌≤◌}
 use native.Mathlib.Omega.{arith}
-use mathlib.Core.Path.{◌≡◌, ap, sym, ◌∙◌}
-use mathlib.Core.List.{List, ◌++◌, append_assoc}
+use mathlib.Core.Path.{◌≡◌, sym, ◌∙◌}
+use mathlib.Core.List.{List, ◌++◌}
 use lib.ListN.{length, take, drop}
-use lib.Seq.{sets, sets-eq, drop-drop}
+use lib.Seq.{sets}
 use borrow.Author.Tests.{le-ltb}
 use Rattle.rules.specs.Numbers.{bytes, part, put_answer, after_put}
 use Rattle.rules.proofs.Loops.Refusals.{not_met}
@@ -13,11 +13,7 @@ use Rattle.rules.proofs.Loops.Parts.{length_part}
 use Rattle.rules.proofs.Loops.Sets.{sets_to_end}
 use Rattle.rules.proofs.Bytes.Numbers.{length_bytes}
 use Rattle.rules.proofs.Bytes.Put.{put_fits}
-
-pub back_in_place : (l : List ℕ) (at m : ℕ) (v : List ℕ) → length v ≡ m → at + m ≤ length l → take at l ++ (v ++ drop m (drop at l)) ≡ sets l at v
-back_in_place l at m v long fits =
-    ap (λ (rest : List ℕ). take at l ++ (v ++ rest)) (drop-drop m at l ∙ ap (λ (k : ℕ). drop (at + k) l) (sym long))
-    ∙ sym (append_assoc (take at l) v (drop (at + length v) l)) ∙ sym (sets-eq v l at (omega arith))
+use Rattle.number.proofs.Parts.{back_in_place}
 
 -- a number put into the part of its four bytes has room there
 pub part_has_room : (l : List ℕ) (at m : ℕ) → m ≡ 4 → at + m ≤ length l → put_answer 4 (part at m l) 0 ≡ 0

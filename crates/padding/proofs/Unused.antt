@@ -5,7 +5,7 @@ use native.Mathlib.Nat.{mod-lt, div-add-mod', div-lt_iff_lt-mul}
 use native.Mathlib.Decide.{dec_lt}
 use native.Mathlib.Omega.{arith}
 use mathlib.Core.Path.{◌≡◌, ap, ap₂, sym, ◌∙◌}
-use mathlib.Core.Logic.{◌⊎◌, inl, inr, ⊎_elim, by_cases}
+use mathlib.Core.Logic.{◌≢◌, ◌⊎◌, inl, inr, ⊎_elim, by_cases}
 use mathlib.Core.Bool.{Bool, true}
 use mathlib.Core.List.{List}
 use lib.ListN.{length, get_or}
@@ -22,6 +22,9 @@ use Rattle.rules.proofs.File.Body.{by_column, column_below}
 use Rattle.rules.proofs.Record.Unused.{unused_share, unused_earned, unused_give}
 use Rattle.rules.specs.Numbers.{part}
 use Rattle.rules.proofs.Loops.Parts.{length_part, get_d_part}
+use Rattle.std.proofs.Common.{Bor, Some}
+use Rattle.std.specs.Prelude.{Option, MatchOption}
+use Rattle.std.specs.Array.{IsWholeChunk}
 use Rattle.padding.specs.Lists.{tallies_at, numbers_record}
 use Rattle.padding.proofs.Cells.{record_cell_lem}
 
@@ -61,6 +64,11 @@ module _ (l : List ℕ) (at size : ℕ) {b : Bool} where
       side : (s : Side) → side_padding (part at row_places l) n 0 s ≡ side_padding l n at s
       side draw = every_cong (8 - n) (λ k m. cell _ _ (omega arith) (omega arith))
       side tip = every_cong (8 - n) (λ k m. cell _ _ (omega arith) (omega arith))
+
+-- a list taken as an array has the same numbers
+pub same_numbers : (l : List ℕ) (m : ℕ) {taken : Option (Bor (List ℕ))} {array : Bor (List ℕ)} → MatchOption taken (length l ≢ m) (λ y. IsWholeChunk l y.now m)
+    → taken ≡ Some array → array.now ≡ l
+same_numbers l m cases is = (rw is at cases).same
 
 module _ (l : List ℕ) (n : ℕ) (n≤8 : n ≤ 8) where
   abbrev R : Record

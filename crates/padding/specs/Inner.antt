@@ -6,7 +6,8 @@ use Rattle.rules.specs.Layout.{desk_limit, body_length}
 use Rattle.rules.specs.Record.{row_places, tips_place}
 use Rattle.padding.specs.Lists.{record_length}
 
--- A run fits: its target has room for it from a place on, and its source has it from a place on. A number takes one place of a list, and four bytes.
+-- A run fits: its target has room for it from a place on, and its source has it from a place on. A number takes one place of a list, and four bytes. It is
+-- asked both ways: of bytes written from a list, and of a list read from bytes.
 pub record RunFits (to room : ℕ) (target : List ℕ) (from size : ℕ) (source : List ℕ) : Type 0 where
   pub has_room : to + room ≤ length target
   pub is_there : from + size ≤ length source

@@ -6,8 +6,9 @@ ghost use Rattle.rules.specs.Numbers.{encode};
 ghost use Rattle.padding.specs.Inner.{RunFits, RowsFit, packed_row};
 
 use crate::{OPENING_AT, ROW, TIPS};
-use layout::cells::{cell_at, side_column};
+use layout::cells::cell_at;
 use layout::lengths::{NUMBER, row_length};
+use layout::side::Side;
 use number::put4;
 
 // Writes count numbers of a list, from a place on, into bytes from a position on. Into a part of 4 bytes a number is written without a test.
@@ -27,7 +28,7 @@ pub(crate) fn pack_rows(bytes: &mut [u8], at: usize, numbers: &[u32], n: u8)
     ensures { bytes.new ≡ sets bytes.old at (flat (suc n) (λ r. encode (packed_row n numbers.now r))) }
 {
     // As many columns stand before those of tip.
-    let front = side_column(n, 1, 0);
+    let front = Side::Tip.column(n, 0);
     let tips = cell_at(n, 0, front);
     let size = row_length(n);
     let mut to = at;

@@ -9,8 +9,9 @@ ghost use Rattle.padding.specs.Inner.{RunFits, RowsClear};
 ghost use Rattle.padding.specs.Lists.{body_numbers};
 
 use crate::{ROW, TIPS};
-use layout::cells::{cell_at, side_column};
+use layout::cells::cell_at;
 use layout::lengths::{NUMBER, row_length};
+use layout::side::Side;
 use number::get4;
 
 // Reads count numbers from a position on into the places of a list from one on. Of a part of 4 bytes a number is read without a test.
@@ -30,7 +31,7 @@ pub(crate) fn pad_rows(out: &mut [u32], bytes: &[u8], n: u8, at: usize)
     ensures { out.new ≡ body_numbers (record_of n (body_view n bytes.now at)) }
 {
     // As many columns stand before those of tip.
-    let front = side_column(n, 1, 0);
+    let front = Side::Tip.column(n, 0);
     let tips = cell_at(n, 0, front);
     let size = row_length(n);
     let mut from = at;

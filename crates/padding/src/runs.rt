@@ -1,19 +1,14 @@
 // Numbers copied from one list to another.
-ghost use Rattle.std.specs.Prelude.{◌≡◌, ◌+◌, length, ltb};
+ghost use Rattle.std.specs.Prelude.{◌≡◌, length};
 ghost use Rattle.padding.specs.Copies.{copy_answer, after_copy};
 ghost use Rattle.refusal.specs.Answers.{answered};
 
+use number::runs_past;
 use refusal::Refusal;
-
-// Whether count places from one on run past the end of len. from + count itself may not fit a usize.
-pub(crate) fn short(len: usize, from: usize, count: usize) -> bool
-    ensures { result ≡ ltb len (from + count) }
-{
-    len < count || len - count < from
-}
 
 // Copies count numbers of a list, from a place on, to the places of another from one on; refused with 3 where the first does not have them, and with 8 where
 // the other has no room, and then nothing is copied.
+#[tactic(auto, using(number::proofs::Parts::back_in_place), unfolding(crate::specs::Copies::copy_answer, crate::specs::Copies::after_copy, rules::proofs::Cases::Table::open_refusals))]
 pub fn copy_run(
     out: &mut [u32],
     to: usize,
@@ -24,10 +19,10 @@ pub fn copy_run(
     ensures answer { answered result ≡ copy_answer to (length out.old) from (length numbers.now) count }
     ensures out { out.new ≡ after_copy to out.old from numbers.now count }
 {
-    if short(numbers.len(), from, count) {
+    if runs_past(numbers.len(), from, count) {
         return Err(Refusal::LengthWrong);
     }
-    if short(out.len(), to, count) {
+    if runs_past(out.len(), to, count) {
         return Err(Refusal::BufferShort);
     }
     out[to..to + count].copy_from_slice(&numbers[from..from + count]);

@@ -1,91 +1,50 @@
--- The lines of the table for an act on a record, each from what leads to it.
+-- An act on a record: where the one tally stands that it adds to, and the lines of the table that answer it.
 -- Assumes nothing.
 use Prim.Native.Nat.{ℕ, ◌+◌, ◌*◌, ◌≤◌, ◌<◌}
 use native.Mathlib.Omega.{arith}
-use mathlib.Core.Path.{◌≡◌, refl, ap, sym, subst, ◌∙◌}
+use mathlib.Core.Path.{◌≡◌, refl, ◌∙◌}
 use mathlib.Core.Logic.{◌≢◌}
-use mathlib.Core.Bool.{Bool, true, false, not}
-use lib.ListN.{get_or, set}
+use mathlib.Core.Bool.{false}
+use lib.ListN.{get_or}
 use lib.Dec.{ltb, eqb}
-use borrow.Author.Tests.{lt-ltb, le-ltb, ltb-true}
+use borrow.Author.Tests.{ltb-true}
 use Rattle.rules.specs.Loops.{◌or◌}
 use Rattle.rules.specs.Refusals.{◌when◌, ◌or_else◌}
-use Rattle.rules.specs.Pile.{rights, tally_limit, amount_limit}
+use Rattle.rules.specs.Pile.{other, rights, tally_limit, amount_limit}
 use Rattle.rules.specs.Acts.{Kind, spend, give, side, tally, receiver_wrong, act_refusal}
 use Rattle.rules.specs.Layout.{desk_limit, act_column}
-use Rattle.rules.specs.Record.{Record, record_view, record_answer, record_desk_answer, record_act_answer, record_after_act, row_places}
+use Rattle.rules.specs.Record.{Record, record_view, record_desk_answer, record_act_answer, row_places}
 use Rattle.rules.proofs.Record.Facts.{record_facts}
-use Rattle.rules.proofs.Loops.Refusals.{own_refusal, or_else_first, or_else_rest, when_not_done, when_accepted}
+use Rattle.refusal.proofs.Refused.{refusals}
+use Rattle.rules.proofs.Loops.Refusals.{or_else_first, or_else_rest, or_else_passes, or_else_stands, when_not_done}
+use Rattle.rules.proofs.Pile.Acted.{receiver}
+use Rattle.rules.proofs.File.Body.{column_below, earned_below}
 
 -- the tally of an act stands at its column of the desk's row
 pub tally_at_lem : (r : Record) (i : ℕ) (kind : Kind) → tally (record_view r) i kind ≡ get_or r.tallies (i * row_places + act_column desk_limit kind) 0
 tally_at_lem r i (spend s) = refl
 tally_at_lem r i (give s j) = refl
 
--- a call of a desk: the record's own refusal, then 11
-module _ (r : Record) (i : ℕ) where
-  pub desk_own : {m : ℕ} → m ≡ record_answer r → m ≢ 0 → m ≡ record_desk_answer i r
-  unfolding record_desk_answer
-  desk_own e d = own_refusal e d (11 when not (ltb i r.n))
+-- and a record's rows have that column, where a give's receiver is right
+pub column_there : (n i : ℕ) (kind : Kind) → receiver_wrong n i kind ≡ false → n ≤ desk_limit → act_column desk_limit kind < row_places
+column_there n i (spend s) right few = earned_below desk_limit (other s)
+column_there n i (give s j) right few = column_below desk_limit s j (omega (arith, (receiver n i (give s j) right).0))
 
-  pub desk_11 : record_answer r ≡ 0 → r.n ≤ i → 11 ≡ record_desk_answer i r
-  unfolding record_desk_answer ◌when◌ ◌or_else◌
-  desk_11 e l = rw (e, le-ltb i r.n l)
+-- a desk whose call is accepted is one of 8
+pub desk_there : (r : Record) (i : ℕ) → record_desk_answer i r ≡ 0 → (i < r.n) × (r.n ≤ desk_limit)
+unfolding record_desk_answer
+desk_there r i e = (ltb-true _ _ (when_not_done 10 _ (or_else_rest _ _ e)), (record_facts r (or_else_first _ _ e)).desks_most)
 
-  pub desk_0 : record_answer r ≡ 0 → i < r.n → 0 ≡ record_desk_answer i r
-  unfolding record_desk_answer ◌when◌ ◌or_else◌
-  desk_0 e l = rw (e, lt-ltb i r.n l)
+-- the answer to an act: the desk's own where it is refused, and otherwise 12 to 15, by the tally that stands at the act's place
+pub act_own : (r : Record) (i : ℕ) (kind : Kind) (t : ℕ) → record_desk_answer i r ≢ 0 → record_act_answer i kind t r ≡ record_desk_answer i r
+unfolding record_act_answer
+act_own r i kind t d = or_else_stands _ _ d
 
-  -- and a desk that is not refused is one that a record has a row for
-  module _ (desk : record_desk_answer i r ≡ 0) where
-    pub desk_lawful : record_answer r ≡ 0
-    unfolding record_desk_answer
-    desk_lawful = or_else_first _ _ desk
+pub act_lines : (r : Record) (i : ℕ) (kind : Kind) (t : ℕ) → record_desk_answer i r ≡ 0
+    → record_act_answer i kind t r
+    ≡ 12 when receiver_wrong r.n i kind or_else 13 when (eqb t 0 or ltb amount_limit t) or_else 14 when ltb (rights r.n (record_view r) (side kind) i) t or_else 15 when ltb tally_limit (get_or r.tallies (i * row_places + act_column desk_limit kind) 0 + t)
+unfolding record_act_answer act_refusal
+act_lines r i kind t desk = or_else_passes desk _ ∙ rw (tally_at_lem r i kind) refl
 
-    pub desk_most : i < desk_limit
-    unfolding record_desk_answer
-    desk_most =
-        let below : i < r.n = ltb-true _ _ (when_not_done 10 _ (or_else_rest _ _ desk)) in
-        omega (arith, below, (record_facts r desk_lawful).desks_most)
-
-  module _ (kind : Kind) (t : ℕ) where
-    pub act_own : {m : ℕ} → m ≡ record_desk_answer i r → m ≢ 0 → m ≡ record_act_answer i kind t r
-    unfolding record_act_answer
-    act_own e d = own_refusal e d (act_refusal r.n (record_view r) i kind t)
-
-    -- 12 to 15: a tally is looked at only where the receiver is right
-    pub lines_answer : record_desk_answer i r ≡ 0 → (wrong : Bool) {left x m : ℕ} → receiver_wrong r.n i kind ≡ wrong → left ≡ rights r.n (record_view r) (side kind) i
-        → (wrong ≡ false → tally (record_view r) i kind ≡ x)
-        → m ≡ 12 when wrong or_else 13 when (eqb t 0 or ltb amount_limit t) or_else 14 when ltb left t or_else 15 when ltb tally_limit (x + t)
-        → m ≡ record_act_answer i kind t r
-    unfolding record_act_answer act_refusal ◌when◌ ◌or_else◌
-    lines_answer desk true receiver left at e = e ∙ rw (desk, receiver) refl
-    lines_answer desk false receiver left at e = e ∙ rw (desk, receiver, sym left, at refl) refl
-
--- the record with so much more at a column of a desk's row
-abbrev pub more : Record → ℕ → ℕ → ℕ → Record
-more r i column t =
-    record {
-      n = r.n;
-      floor = r.floor;
-      top = r.top;
-      shares = r.shares;
-      tallies = set r.tallies (i * row_places + column) (get_or r.tallies (i * row_places + column) 0 + t);
-    }
-
-pub act_entered : (r : Record) (i : ℕ) (kind : Kind) (t : ℕ) {column : ℕ} → act_column 8 kind ≡ column → record_act_answer i kind t r ≡ 0
-    → more r i column t ≡ record_after_act i kind t r
-unfolding record_after_act
-act_entered r i kind t k e =
-    subst (λ (column : ℕ). more r i column t ≡ record_after_act i kind t r) k
-    (sym (when_accepted _ _ _ e ∙ ap (stored r i kind t) (tally_at_lem r i kind)))
-  where
-    stored : (r : Record) (i : ℕ) (kind : Kind) (t x : ℕ) → Record
-    stored r i kind t x =
-        record {
-          n = r.n;
-          floor = r.floor;
-          top = r.top;
-          shares = r.shares;
-          tallies = set r.tallies (i * row_places + act_column 8 kind) (x + t);
-        }
+-- what tells a `grind` of an act on a record
+pub ruleset acts = (refusals, tally_at_lem, column_there, desk_there, act_own, act_lines)

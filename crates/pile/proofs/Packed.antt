@@ -12,7 +12,7 @@ use Rattle.rules.specs.Loops.{◌and◌, between}
 use Rattle.rules.specs.Refusals.{◌when◌, ◌or_else◌}
 use Rattle.rules.specs.Pile.{Side, rights, tonnage, top_limit}
 use Rattle.rules.specs.Layout.{body_length, body_view}
-use Rattle.rules.specs.Record.{Record, record_view, record_answer, InMemory}
+use Rattle.rules.specs.Record.{Record, record_view, record_answer, share_places, tally_places}
 use Rattle.rules.proofs.Loops.Logic.{and_both}
 use Rattle.rules.proofs.Pile.Agree.{Agree, rights_cong, tonnage_cong}
 use Rattle.rules.proofs.Pile.Tonnage.{tonnage_within, rights_most}
@@ -25,17 +25,17 @@ use Rattle.padding.proofs.Checked.{packed_agrees}
 use Rattle.pile.specs.Inner.{PackedAs}
 use Rattle.pile.proofs.RecordNumbers.{length_record, numbers_again}
 
-pub list_answer_lem : (r : Record) → InMemory r → list_answer (record_numbers r) ≡ record_answer r
+pub list_answer_lem : (r : Record) → length r.shares ≡ share_places → length r.tallies ≡ tally_places → list_answer (record_numbers r) ≡ record_answer r
 unfolding list_answer ◌when◌ ◌or_else◌
-list_answer_lem r arrays = rw (eq-eqb _ _ (length_record r arrays.shares_long arrays.tallies_long), numbers_again r arrays.shares_long arrays.tallies_long)
+list_answer_lem r shares tallies = rw (eq-eqb _ _ (length_record r shares tallies), numbers_again r shares tallies)
 
 -- the list of a lawful record is packed where there is room for any body
-pub packs : (r : Record) → InMemory r → record_answer r ≡ 0 → pack_answer (record_numbers r) 0 648 ≡ 0
+pub packs : (r : Record) → length r.shares ≡ share_places → length r.tallies ≡ tally_places → record_answer r ≡ 0 → pack_answer (record_numbers r) 0 648 ≡ 0
 unfolding pack_answer record_numbers between ◌and◌ ◌when◌ ◌or_else◌
-packs r arrays passed =
+packs r shares tallies passed =
     let desks = record_facts r passed in
     rw (
-      eq-eqb _ _ (length_record r arrays.shares_long arrays.tallies_long),
+      eq-eqb _ _ (length_record r shares tallies),
       le-leb _ _ desks.desks_least,
       le-leb _ _ desks.desks_most,
       le-ltb 648 (0 + body_length r.n) (omega (arith, body_most r.n desks.desks_most)),
@@ -47,7 +47,7 @@ module _ (r : Record) {bytes : List ℕ} (packed : PackedAs r bytes) where
   unfolding record_numbers
   agrees =
       rw (numbers_again r packed.arrays.shares_long packed.arrays.tallies_long)
-      at (packed_agrees (record_numbers r) (list_answer_lem r packed.arrays ∙ packed.lawful) packed.body)
+      at (packed_agrees (record_numbers r) (list_answer_lem r packed.arrays.shares_long packed.arrays.tallies_long ∙ packed.lawful) packed.body)
 
   there : body_there r.n 0 (length bytes) ≡ true
   unfolding body_there between

@@ -47,15 +47,13 @@ module _ (r : Record) (shares : length r.shares ≡ share_places) (tallies : len
       (take_at r.shares r.tallies share_places shares)
       (ap (take tally_places) (drop_at r.shares r.tallies share_places shares) ∙ take_all tally_places r.tallies (le_of_eq tallies))
 
--- a list that is a record's: its length, its n, and the record
-pub record Listed (l : List ℕ) (r : Record) : Type 0 where
-  pub long : length l ≡ record_length
-  pub few : get_or l 0 0 ≤ 8
-  pub is : numbers_record l ≡ r
+-- a list that is a record's: its n, and the record
+abbrev Listed : List ℕ → Record → Type 0
+Listed l r = (get_or l 0 0 ≤ 8) × (numbers_record l ≡ r)
 
 zeros_listed : Listed (replicate record_length 0) zero_record
 unfolding numbers_record
-zeros_listed = record { long = refl; few = lit≤ tt; is = refl }
+zeros_listed = (lit≤ tt, refl)
 
 -- what padding leaves of a list of zeros: the record's numbers where a body is there, and zeros where none is
 module _ (n at : ℕ) (b : List ℕ) where
@@ -67,12 +65,7 @@ module _ (n at : ℕ) (b : List ℕ) where
 
   numbers_listed : n ≤ 8 → Listed (record_numbers R) R
   unfolding record_of record_numbers
-  numbers_listed few =
-      record {
-        long = length_record R (length_shares n (body_view n b at)) (length_tallies n (body_view n b at));
-        few = few;
-        is = numbers_again R (length_shares n (body_view n b at)) (length_tallies n (body_view n b at));
-      }
+  numbers_listed few = (few, numbers_again R (length_shares n (body_view n b at)) (length_tallies n (body_view n b at)))
 
   answered : there ≡ true → pad_answer n at (length b) record_length ≡ 0
   unfolding pad_answer ◌when◌ ◌or_else◌
@@ -94,5 +87,8 @@ module _ (n at : ℕ) (b : List ℕ) where
       (numbers_listed (leb-true _ _ (and_right _ _ (and_left _ _ e))))
   by_test false e = rw (e, when_refused _ (sets (replicate record_length 0) 0 (record_numbers R)) (replicate record_length 0) (refused _ refl e)) zeros_listed
 
-  pub padded_listed : {l : List ℕ} → l ≡ after_pad n at b (replicate record_length 0) → Listed l (body_record n b at)
-  padded_listed e = rw e (by_test _ refl)
+  pub padded_few : get_or (after_pad n at b (replicate record_length 0)) 0 0 ≤ 8
+  padded_few = (by_test _ refl).0
+
+  pub padded_is : numbers_record (after_pad n at b (replicate record_length 0)) ≡ body_record n b at
+  padded_is = (by_test _ refl).1

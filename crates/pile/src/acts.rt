@@ -1,82 +1,47 @@
-// The acts on a record. Tip and draw spend rights of a side, the two gives give them: the side is a parameter, 0 for draw, any other for tip. It is a number, since `rights_in` and `side_column` answer any.
-ghost use Rattle.std.specs.Prelude.{◌≡◌, ◌<◌, IfOk};
-ghost use Rattle.std.specs.Result.{result_unwrap_or};
-ghost use Rattle.rules.specs.Pile.{side_of};
-ghost use Rattle.rules.specs.Acts.{Kind, spend, give};
-ghost use Rattle.rules.specs.Layout.{column};
-ghost use Rattle.rules.specs.Record.{record_act_answer, record_after_act, row_places};
+// The acts on a record: one function enters all four.
+ghost use Rattle.std.specs.Prelude.{◌≡◌, IfOk};
+ghost use Rattle.rules.specs.Record.{record_act_answer, record_after_act};
+ghost use Rattle.act_lines.specs.Kinds.{kind_of};
 ghost use Rattle.refusal.specs.Answers.{answered};
 ghost use Rattle.pile.specs.View.{as_record};
-ghost use Rattle.pile.specs.Inner.{Means};
 
 use crate::queries::rights_of;
 use crate::{Outcome, Pile, ROW};
-use act_lines::{act_refusal, receiver_wrong};
-use layout::cells::side_column;
+use act_lines::act_refusal;
+use act_lines::kinds::Kind;
 use refusal::Refusal;
 
-// The record after an act of a desk that needs rights of a side and adds to the tally at a column of the desk's row.
-pub(crate) fn enter(
-    p: Pile,
-    side: u8,
-    desk: u8,
-    wrong: bool,
-    column: usize,
-    amount: u32,
-) -> Result<Pile, Refusal>
-    requires { column < row_places }
-    ensures { (kind : Kind) → Means (as_record p) side desk wrong column kind → (answered result ≡ record_act_answer desk kind amount (as_record p)) × IfOk result (λ pile. as_record pile ≡ record_after_act desk kind amount (as_record p)) }
+// The record after an act of a desk. A row has no place for a receiver that is none of 8 desks, and then the act is refused for its receiver.
+#[tactic(auto, using(crate::proofs::ActLines::acts), unfolding(rules::specs::Record::record_after_act, rules::specs::Refusals::done))]
+fn enter(p: Pile, desk: u8, kind: Kind, amount: u32) -> Result<Pile, Refusal>
+    ensures answer { answered result ≡ record_act_answer desk (kind_of kind) amount (as_record p) }
+    ensures pile { IfOk result (λ pile. as_record pile ≡ record_after_act desk (kind_of kind) amount (as_record p)) }
 {
-    let rights = rights_of(p, side, desk)?;
+    let rights = rights_of(p, kind.side(), desk)?;
+    let column = usize::from(kind.column(Pile::DESKS));
     let at = usize::from(desk) * ROW + column;
-    act_refusal(wrong, amount, u64::from(rights), p.tallies[at])?;
+    let tally = p.tallies.get(at).copied().unwrap_or(0);
+    let wrong = kind.receiver_wrong(p.n, desk);
+    act_refusal(wrong, amount, u64::from(rights), tally)?;
     let mut next = p;
-    next.tallies[at] += amount;
+    next.tallies[at] = tally + amount;
     Ok(next)
 }
 
 // The record after an act beside its answer: where it is refused, the record before it.
-fn outcome_of(before: Pile, entered: Result<Pile, Refusal>) -> Outcome
-    ensures answer { answered result.answer ≡ answered entered }
-    ensures pile { result.pile ≡ result_unwrap_or entered before }
+#[tactic(auto, using(refusal::proofs::Refused::refusals), unfolding(rules::specs::Record::record_after_act, rules::proofs::Cases::Table::open_refusals))]
+pub(crate) fn act(p: Pile, desk: u8, kind: Kind, amount: u32) -> Outcome
+    ensures answer { answered result.answer ≡ record_act_answer desk (kind_of kind) amount (as_record p) }
+    ensures pile { as_record result.pile ≡ record_after_act desk (kind_of kind) amount (as_record p) }
 {
-    match entered {
+    match enter(p, desk, kind, amount) {
         Ok(pile) => Outcome {
             answer: Ok(()),
             pile,
         },
         Err(refusal) => Outcome {
             answer: Err(refusal),
-            pile: before,
+            pile: p,
         },
     }
-}
-
-// Tipping spends tip rights, and drawing draw rights: what was tipped stands in column 0, and what was drawn in column 1.
-pub(crate) fn spend_side(p: Pile, side: u8, desk: u8, amount: u32) -> Outcome
-    ensures answer { answered result.answer ≡ record_act_answer desk (spend (side_of side)) amount (as_record p) }
-    ensures pile { as_record result.pile ≡ record_after_act desk (spend (side_of side)) amount (as_record p) }
-{
-    let column = if side == 0 { 1 } else { 0 };
-    outcome_of(p, enter(p, side, desk, false, column, amount))
-}
-
-// The column of a side's gives to a receiver, where there is one.
-pub(crate) fn give_column(side: u8, receiver: u8) -> usize
-    ensures { (result < row_places) × (receiver < 8 → result ≡ column 8 (side_of side) receiver) }
-{
-    if Pile::DESKS <= receiver {
-        return 0;
-    }
-    usize::from(side_column(Pile::DESKS, side, receiver))
-}
-
-// A give of a side to a receiver.
-pub(crate) fn give_side(p: Pile, side: u8, desk: u8, receiver: u8, amount: u32) -> Outcome
-    ensures answer { answered result.answer ≡ record_act_answer desk (give (side_of side) receiver) amount (as_record p) }
-    ensures pile { as_record result.pile ≡ record_after_act desk (give (side_of side) receiver) amount (as_record p) }
-{
-    let wrong = receiver_wrong(p.n, desk, receiver);
-    let column = give_column(side, receiver);
-    outcome_of(p, enter(p, side, desk, wrong, column, amount))
 }

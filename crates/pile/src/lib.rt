@@ -11,14 +11,17 @@ ghost use Rattle.rules.specs.Pile.{draw, tip};
 ghost use Rattle.rules.specs.Acts.{spend, give};
 ghost use Rattle.rules.specs.Record.{record_answer, body_record, fresh_answer, fresh_record, zero_record, record_tonnage_reply, record_rights_reply, record_act_answer, record_after_act};
 ghost use Rattle.padding.specs.Lists.{record_numbers};
+ghost use Rattle.layout.specs.Sides.{as_side};
 ghost use Rattle.pile.specs.View.{as_record};
 ghost use Rattle.pile.specs.Replies.{as_reply};
 ghost use Rattle.refusal.specs.Answers.{answered};
 
-use acts::{give_side, spend_side};
+use act_lines::kinds::Kind;
+use acts::act;
 use layout::limits;
-use lists::{numbers_of, record_of};
-use padding::{RECORD, check_record, pad};
+use layout::side::Side;
+use lists::record_of;
+use padding::{RECORD, SHARES_AT, TALLIES_AT, check_record, pad};
 use queries::{rights_of, tonnage_of};
 use refusal::Refusal;
 
@@ -88,6 +91,7 @@ impl Pile {
     }
 
     // The record of the body of n desks at a position; where no such body is there, the record of all zeros, which every call on a record refuses with 2.
+    #[tactic(auto, using(crate::proofs::RecordNumbers::padded_few, crate::proofs::RecordNumbers::padded_is))]
     pub fn of_body(bytes: &[u8], at: usize, n: u8) -> Pile
         ensures { as_record result ≡ body_record n bytes.now at }
     {
@@ -101,31 +105,47 @@ impl Pile {
     pub fn numbers(self) -> [u32; RECORD]
         ensures { result ≡ record_numbers (as_record self) }
     {
-        numbers_of(self)
+        let mut numbers = [0; RECORD];
+        numbers[0] = u32::from(self.n);
+        numbers[1] = self.floor;
+        numbers[2] = self.top;
+        numbers[SHARES_AT..TALLIES_AT].copy_from_slice(&self.shares);
+        numbers[TALLIES_AT..].copy_from_slice(&self.tallies);
+        numbers
     }
 
     // The record's own refusal: 2, 5, 6 or 7.
+    #[tactic(auto, using(crate::proofs::Packed::list_answer_lem))]
     pub fn check(self) -> Result<(), Refusal>
         ensures { answered result ≡ record_answer (as_record self) }
     {
-        check_record(&numbers_of(self))
+        check_record(&self.numbers())
+    }
+
+    // A desk's rights of a side; refused with 2, 5, 6, 7 or 11.
+    #[tactic(auto, using(refusal::proofs::Refused::refusals), unfolding(rules::specs::Record::record_rights_reply, rules::proofs::Cases::Table::open_refusals))]
+    pub fn rights(self, side: Side, desk: u8) -> Result<u32, Refusal>
+        ensures { as_reply result ≡ record_rights_reply (as_side side) desk (as_record self) }
+    {
+        rights_of(self, side, desk)
     }
 
     // A desk's draw rights; refused with 2, 5, 6, 7 or 11.
     pub fn draw_rights(self, desk: u8) -> Result<u32, Refusal>
         ensures { as_reply result ≡ record_rights_reply draw desk (as_record self) }
     {
-        rights_of(self, 0, desk)
+        self.rights(Side::Draw, desk)
     }
 
     // A desk's tip rights; refused with 2, 5, 6, 7 or 11.
     pub fn tip_rights(self, desk: u8) -> Result<u32, Refusal>
         ensures { as_reply result ≡ record_rights_reply tip desk (as_record self) }
     {
-        rights_of(self, 1, desk)
+        self.rights(Side::Tip, desk)
     }
 
     // The tonnage by the acts that the record holds; refused with 2, 5, 6 or 7.
+    #[tactic(auto, using(refusal::proofs::Refused::refusals), unfolding(rules::specs::Record::record_tonnage_reply, rules::proofs::Cases::Table::open_refusals))]
     pub fn tonnage(self) -> Result<u32, Refusal>
         ensures { as_reply result ≡ record_tonnage_reply (as_record self) }
     {
@@ -137,7 +157,7 @@ impl Pile {
         ensures answer { answered result.answer ≡ record_act_answer desk (spend tip) amount (as_record self) }
         ensures pile { as_record result.pile ≡ record_after_act desk (spend tip) amount (as_record self) }
     {
-        spend_side(self, 1, desk, amount)
+        act(self, desk, Kind::Spend(Side::Tip), amount)
     }
 
     // The record after a desk draws; refused with 2, 5, 6, 7, 11, 13, 14 or 15, and then unaltered.
@@ -145,7 +165,7 @@ impl Pile {
         ensures answer { answered result.answer ≡ record_act_answer desk (spend draw) amount (as_record self) }
         ensures pile { as_record result.pile ≡ record_after_act desk (spend draw) amount (as_record self) }
     {
-        spend_side(self, 0, desk, amount)
+        act(self, desk, Kind::Spend(Side::Draw), amount)
     }
 
     // The record after a desk gives draw rights; refused with 2, 5, 6, 7 or 11 to 15, and then unaltered.
@@ -153,7 +173,7 @@ impl Pile {
         ensures answer { answered result.answer ≡ record_act_answer desk (give draw receiver) amount (as_record self) }
         ensures pile { as_record result.pile ≡ record_after_act desk (give draw receiver) amount (as_record self) }
     {
-        give_side(self, 0, desk, receiver, amount)
+        act(self, desk, Kind::Give(Side::Draw, receiver), amount)
     }
 
     // The record after a desk gives tip rights; refused with 2, 5, 6, 7 or 11 to 15, and then unaltered.
@@ -161,6 +181,6 @@ impl Pile {
         ensures answer { answered result.answer ≡ record_act_answer desk (give tip receiver) amount (as_record self) }
         ensures pile { as_record result.pile ≡ record_after_act desk (give tip receiver) amount (as_record self) }
     {
-        give_side(self, 1, desk, receiver, amount)
+        act(self, desk, Kind::Give(Side::Tip, receiver), amount)
     }
 }

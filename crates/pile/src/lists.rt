@@ -1,24 +1,11 @@
-// A record as a list of numbers, and a list of numbers as a record.
+// A list of numbers as a record.
 ghost use Rattle.std.specs.Prelude.{◌≡◌, ◌+◌, ◌≤◌, get_or};
 ghost use Rattle.rules.specs.Numbers.{part};
-ghost use Rattle.padding.specs.Lists.{record_length, record_numbers, numbers_record};
+ghost use Rattle.padding.specs.Lists.{record_length, numbers_record};
 ghost use Rattle.pile.specs.View.{as_record};
 
 use crate::Pile;
 use padding::{RECORD, SHARES_AT, TALLIES_AT};
-
-// The record's numbers.
-pub(crate) fn numbers_of(pile: Pile) -> [u32; RECORD]
-    ensures { result ≡ record_numbers (as_record pile) }
-{
-    let mut numbers = [0; RECORD];
-    numbers[0] = u32::from(pile.n);
-    numbers[1] = pile.floor;
-    numbers[2] = pile.top;
-    numbers[SHARES_AT..TALLIES_AT].copy_from_slice(&pile.shares);
-    numbers[TALLIES_AT..].copy_from_slice(&pile.tallies);
-    numbers
-}
 
 // N numbers of a list of a record's length, from a place on.
 fn run_of<const N: usize>(numbers: &[u32; RECORD], at: usize) -> [u32; N]

@@ -1,32 +1,30 @@
--- What a call for the body of a pile leaves in the two numbers that are lent for its start and its length.
+-- What a call for the body of a pile tells: where it starts that `seek` has found, and the length of every body of the book.
 -- Assumes nothing.
 use Prim.Native.Nat.{ℕ}
-use mathlib.Core.Path.{◌≡◌, sym, ◌∙◌}
-use mathlib.Core.Logic.{◌≢◌}
+use mathlib.Core.Path.{◌≡◌, ap, sym, ◌∙◌}
 use mathlib.Core.List.{List}
+use Rattle.refusal.proofs.Refused.{number_is_not_0}
 use Rattle.rules.specs.Layout.{body_length, desks}
-use Rattle.rules.specs.Book.{fetch_answer, desk_answer, body_start}
-use Rattle.rules.specs.Record.{desk_start}
+use Rattle.rules.specs.Opening.{body_size}
+use Rattle.rules.specs.Book.{desk_answer, body_start}
+use Rattle.rules.specs.Record.{desk_start, desk_count}
 use Rattle.rules.proofs.Loops.Refusals.{when_accepted}
+use Rattle.rules.proofs.File.BodySize.{size_in_range}
 use Rattle.rules.proofs.File.Readable.{book_facts}
-use Rattle.rules.proofs.File.Found.{found_readable, found_place}
-use Rattle.rules.proofs.Record.OfBody.{found_start}
-use Rattle.book.proofs.Replies.{fetch_is}
-use Rattle.pitbook.specs.Queries.{start_or, length_or}
-use Rattle.rules.proofs.Loops.Left.{stays, becomes}
+use Rattle.rules.proofs.File.Found.{found_readable, found_place, desk_0_fetch}
+use Rattle.rules.proofs.Record.OfBody.{found_start, found_count}
 
-module _ (b : List ℕ) (number : ℕ) {m : ℕ} (answer : m ≡ desk_answer 0 b number) where
-  pub told_nothing : m ≢ 0 → (start length : ℕ) → (m ≡ fetch_answer b number) × ((start ≡ start_or b number start) × (length ≡ length_or b number length))
-  unfolding start_or length_or
-  told_nothing d start length = let is = fetch_is b number answer in (is, (stays _ _ is d, stays _ _ is d))
+module _ (b : List ℕ) (number : ℕ) (located : desk_answer 0 b number ≡ 0) where
+  pub start_told : desk_start 0 b number ≡ body_start b number
+  unfolding body_start
+  start_told =
+      let found = sym (desk_0_fetch b number) ∙ located in
+      let placed = (book_facts b (found_readable 0 b number located)).placed _ (found_place 0 b number located) in
+      found_start 0 b number located ∙ sym (when_accepted _ _ _ found ∙ placed)
 
-  pub told_body : m ≡ 0 → (old old' : ℕ) {start length : ℕ} → start ≡ desk_start 0 b number → length ≡ body_length (desks b)
-      → (0 ≡ fetch_answer b number) × ((start ≡ start_or b number old) × (length ≡ length_or b number old'))
-  unfolding start_or length_or body_start
-  told_body z old old' start length =
-      let located = sym answer ∙ z in
-      let found = sym (fetch_is b number answer) ∙ z in
-      let placed = (book_facts b (found_readable 0 b number located)).placed _ (found_place 0 b number located) in (
-        sym found,
-        (becomes _ _ found (start ∙ found_start 0 b number located ∙ sym (when_accepted _ _ _ found ∙ placed)), becomes _ _ found length),
-      )
+  pub length_told : body_size (desk_count 0 b number) ≡ body_length (desks b)
+  length_told =
+      let s = (book_facts b (found_readable 0 b number located)).sizes in
+      ap body_size (found_count 0 b number located) ∙ size_in_range _ s.desks_least s.desks_most
+
+pub ruleset body_told = (start_told, length_told, desk_0_fetch, number_is_not_0)

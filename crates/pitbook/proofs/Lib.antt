@@ -1,4 +1,2 @@
-pub mod Filling
 pub mod ContentsLines
 pub mod BodyTold
-mod HandedOut

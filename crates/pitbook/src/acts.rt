@@ -44,6 +44,7 @@ pub fn pit_give_tip(book: &mut [u8], desk: u8, pile: u16, receiver: u8, amount: 
 
 // Takes a copy of another desk's book into the own one, and hands out how many pile and desk pairs have another row now; refused with 1 to 7 for the own
 // book, 21 to 27 for the copy, then 11, 30, and by pile and desk 31 or 32.
+#[tactic(auto, using(refusal::proofs::Refused::number_is_not_0), unfolding(rules::specs::Refusals::done))]
 pub fn pit_take(own: &mut [u8], copy: &[u8], desk: u8, changed: &mut u32) -> u8
     ensures answer { result ≡ take_answer desk own.old copy.now }
     ensures book { own.new ≡ after_take desk own.old copy.now }

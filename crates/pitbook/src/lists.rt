@@ -4,8 +4,10 @@ ghost use Rattle.rules.specs.Refusals.{done};
 ghost use Rattle.reconcile.specs.Lists.{reconcile_answer, reconciliation};
 
 use reconcile::reconcile;
+use refusal::answer;
 
 // Compares two lists of tickets, each rising by ticket number; refused with 3, 33, 34, 13, 35, 36 or 37.
+#[tactic(auto, using(refusal::proofs::Refused::number_is_not_0, reconcile::proofs::Reconciled::answer_told), unfolding(rules::specs::Refusals::done))]
 pub fn pit_reconcile(
     bridge: &[u8],
     desk: &[u8],
@@ -20,14 +22,12 @@ pub fn pit_reconcile(
     ensures only_bridge { only_bridge.new ≡ done (reconcile_answer bridge.now desk.now) (reconciliation bridge.now desk.now).only_bridge only_bridge.old }
     ensures only_desk { only_desk.new ≡ done (reconcile_answer bridge.now desk.now) (reconciliation bridge.now desk.now).only_desk only_desk.old }
 {
-    match reconcile(bridge, desk) {
-        Ok(counts) => {
-            *alike = counts.alike;
-            *differing = counts.differing;
-            *only_bridge = counts.only_bridge;
-            *only_desk = counts.only_desk;
-            0
-        }
-        Err(refusal) => refusal.into(),
+    let reconciled = reconcile(bridge, desk);
+    if let Ok(counts) = reconciled {
+        *alike = counts.alike;
+        *differing = counts.differing;
+        *only_bridge = counts.only_bridge;
+        *only_desk = counts.only_desk;
     }
+    answer(reconciled.map(|_| ()))
 }

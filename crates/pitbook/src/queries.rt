@@ -9,6 +9,7 @@ use crate::told::hand_out;
 use book::{draw_rights, seek, tip_rights, tonnage};
 use bounds::{least, most};
 use layout::lengths::body_length;
+use refusal::answer;
 
 // A desk's draw rights of a pile; refused with 1 to 7, 11 or 10.
 pub fn pit_draw_rights(book: &[u8], desk: u8, pile: u16, out: &mut u32) -> u8
@@ -51,19 +52,16 @@ pub fn pit_most(book: &[u8], desk: u8, pile: u16, out: &mut u32) -> u8
 }
 
 // Where the body of a pile starts, its contents position, and its length; refused with 1 to 7 or 10.
+#[tactic(auto, using(crate::proofs::BodyTold::body_told), unfolding(crate::specs::Queries::start_or, crate::specs::Queries::length_or, rules::specs::Refusals::done))]
 pub fn pit_body(book: &[u8], pile: u16, start: &mut usize, length: &mut usize) -> u8
     ensures answer { result ≡ fetch_answer book.now pile }
     ensures start { start.new ≡ start_or book.now pile start.old }
     ensures length { length.new ≡ length_or book.now pile length.old }
 {
-    match seek(book, 0, pile) {
-        Ok(found) => {
-            let at = found.start as usize;
-            let size = body_length(found.desks);
-            *start = at;
-            *length = size;
-            0
-        }
-        Err(refusal) => refusal.into(),
+    let sought = seek(book, 0, pile);
+    if let Ok(found) = sought {
+        *start = found.start as usize;
+        *length = body_length(found.desks);
     }
+    answer(sought.map(|_| ()))
 }

@@ -7,6 +7,7 @@ use refusal::answer;
 use ticket::Ticket;
 
 // Reads a ticket of 11 bytes; refused with 3, 33, 34, 13 or 35. Kind is 1 for a tip and 2 for a draw.
+#[tactic(auto, using(refusal::proofs::Refused::number_is_not_0), unfolding(ticket::specs::Tickets::reading, rules::specs::Refusals::done))]
 pub fn pit_read_ticket(
     bytes: &[u8],
     number: &mut u32,
@@ -22,17 +23,15 @@ pub fn pit_read_ticket(
     ensures kind { kind.new ≡ done (read_answer bytes.now) (ticket_of bytes.now).kind kind.old }
     ensures desk { desk.new ≡ done (read_answer bytes.now) (ticket_of bytes.now).desk desk.old }
 {
-    match Ticket::read(bytes) {
-        Ok(ticket) => {
-            *number = ticket.number;
-            *pile = ticket.pile;
-            *tonnes = ticket.tonnes;
-            *kind = ticket.kind;
-            *desk = ticket.desk;
-            0
-        }
-        Err(refusal) => refusal.into(),
+    let read = Ticket::read(bytes);
+    if let Ok(ticket) = read {
+        *number = ticket.number;
+        *pile = ticket.pile;
+        *tonnes = ticket.tonnes;
+        *kind = ticket.kind;
+        *desk = ticket.desk;
     }
+    answer(read.map(|_| ()))
 }
 
 // Writes a ticket from a lent buffer's start on; refused with 33, 34, 13, 35 or, last, 8. Bytes past the ticket stay.

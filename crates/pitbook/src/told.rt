@@ -3,18 +3,13 @@ ghost use Rattle.std.specs.Prelude.{◌≡◌};
 ghost use Rattle.std.specs.Result.{result_unwrap_or};
 ghost use Rattle.refusal.specs.Answers.{answered};
 
-use refusal::Refusal;
+use refusal::{Refusal, answer};
 
 // Of a refused call the lent place stays as it is.
 pub(crate) fn hand_out(told: Result<u32, Refusal>, out: &mut u32) -> u8
     ensures answer { result ≡ answered told }
     ensures out { out.new ≡ result_unwrap_or told out.old }
 {
-    match told {
-        Ok(value) => {
-            *out = value;
-            0
-        }
-        Err(refusal) => refusal.into(),
-    }
+    *out = told.unwrap_or(*out);
+    answer(told.map(|_| ()))
 }

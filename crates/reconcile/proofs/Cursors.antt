@@ -25,8 +25,8 @@ use Rattle.reconcile.specs.Lists.{tickets_in}
 use Rattle.reconcile.specs.Inner.{Place, read_at, as_place, place_at, Standing}
 use Rattle.reconcile.proofs.Readings.{read_below, read_end}
 
-abbrev as_at : ℕ → ℕ → Bool → Ticket → Place
-as_at at answer rises head = record { at = at; answer = answer; rises = rises; head = head }
+abbrev as_at : List ℕ → ℕ → ℕ → Bool → Ticket → Place
+as_at list at answer rises head = record { list = list; at = at; answer = answer; rises = rises; head = head }
 
 -- what is read at a place, as the code has it: its refusal, and the ticket that stands there
 abbrev accepted : Result Unit Refusal
@@ -47,21 +47,25 @@ first_told (Err refusal) r = sym (or_else_stands _ _ (number_is_not_0 refusal))
 
 -- the first ticket has none before it
 pub started : (b : List ℕ) (r : Result Ticket Refusal) → as_reading r ≡ read_at b 0
-    → as_at 0 (answered (result_and r accepted)) true (result_unwrap_or r no_ticket) ≡ place_at b 0
+    → as_at b 0 (answered (result_and r accepted)) true (result_unwrap_or r no_ticket) ≡ place_at b 0
 unfolding place_at first ◌or_else◌ every
-started b r e = ap₂ (λ (x : ℕ) (t : Ticket). as_at 0 x true t) (reading_told r) (reading_stands r) ∙ ap (λ (r : Reading). as_at 0 r.answer true r.ticket) e
+started b r e = ap₂ (λ (x : ℕ) (t : Ticket). as_at b 0 x true t) (reading_told r) (reading_stands r) ∙ ap (λ (r : Reading). as_at b 0 r.answer true r.ticket) e
 
 module _ {b : List ℕ} {c : Cursor} (s : Standing b c) where
   at_ticket : c.at / ticket_length * ticket_length ≡ c.at
   unfolding place_at
   at_ticket = sym (ap (λ (p : Place). p.at) s.is_at)
 
+  pub list_is : c.list.now ≡ b
+  unfolding place_at
+  list_is = ap (λ (p : Place). p.list) s.is_at
+
   pub next_position : ((c.at + ticket_length) % ticket_length ≡ 0) × (length b % ticket_length ≡ 0)
   next_position = (omega (arith, at_ticket), s.whole)
 
   pub advanced : (r : Result Ticket Refusal) {rises : Bool} → as_reading r ≡ read_at b ((c.at + ticket_length) / ticket_length)
       → rises ≡ c.rises and ltb c.head.number (result_unwrap_or r no_ticket).number
-      → as_at (c.at + ticket_length) (answered (result_and (result_and c.answer r) accepted)) rises (result_unwrap_or r no_ticket)
+      → as_at b (c.at + ticket_length) (answered (result_and (result_and c.answer r) accepted)) rises (result_unwrap_or r no_ticket)
       ≡ place_at b (c.at / ticket_length + 1)
   unfolding place_at first every
   advanced r {rises} read_is rises-is =
@@ -73,7 +77,7 @@ module _ {b : List ℕ} {c : Cursor} (s : Standing b c) where
       let head = reading_stands r ∙ ap (λ (r : Reading). r.ticket) r_is in
       let answers = first_told c.answer r ∙ ap₂ (λ (p : Place) (r : Reading). p.answer or_else r.answer) here r_is in
       let rising = rises-is ∙ ap₂ (λ (p : Place) (t : Ticket). p.rises and ltb p.head.number t.number) here head in
-      rw (add-one k) (λ i. as_at (position i) (answers i) (rising i) (head i))
+      rw (add-one k) (λ i. as_at b (position i) (answers i) (rising i) (head i))
 
   -- the head: a ticket with a number that tickets have, or behind them the end
   pub head_is : c.head ≡ (read_at b (c.at / ticket_length)).ticket

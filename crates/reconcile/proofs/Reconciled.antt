@@ -9,8 +9,9 @@ use mathlib.Core.Bool.{Bool, true, false, not}
 use mathlib.Core.Logic.{by_cases}
 use mathlib.Core.List.{List}
 use lib.ListN.{length}
-use borrow.Author.Tests.{not-false, eqb-true, ltb-false}
-use Rattle.rules.specs.Loops.{◌or◌, sum, count}
+use lib.Dec.{ltb}
+use borrow.Author.Tests.{not-true, not-false, eqb-true, ltb-false}
+use Rattle.rules.specs.Loops.{sum, count}
 use Rattle.rules.specs.Refusals.{◌when◌, ◌or_else◌}
 use Rattle.rules.proofs.Loops.Logic.{or_left, or_right, or_neither}
 use Rattle.rules.proofs.Loops.Refusals.{or_else_first, or_else_rest, or_else_passes, or_else_under, not_met, when_not_done, when_accepted, when_refused}
@@ -29,6 +30,7 @@ use Rattle.reconcile.specs.Laws.{CountsAddUp}
 use Rattle.reconcile.specs.Inner.{Place, as_place, place_at, Standing, Sound, ListWalked, Walked}
 use Rattle.reconcile.proofs.Laws.{alike_along, differing_along, only_along, first_adds_up, second_adds_up}
 use Rattle.reconcile.proofs.Readings.{tickets_length, all_asked, all_rise, sound_listed}
+use Rattle.reconcile.proofs.Cursors.{list_is}
 use Rattle.reconcile.proofs.Steps.{as_walk}
 
 pub sized : (b : List ℕ) → length_wrong b ≡ false → (length b % ticket_length ≡ 0) × (length b ≤ list_limit * ticket_length)
@@ -51,6 +53,20 @@ side_begun {own} {c = c} e is-start =
 pub begun : {b d : List ℕ} {at_bridge at_desk : Cursor} → length_wrong b ≡ false → length_wrong d ≡ false
     → as_place at_bridge ≡ place_at b 0 → as_place at_desk ≡ place_at d 0 → Walked b d (as_walk at_bridge at_desk 0 0 0 0)
 begun e e' is-start is-start' = record { of_bridge = side_begun e is-start; of_desk = side_begun e' is-start' }
+
+-- the cursors carry the lists along
+beside : {b b' d d' : List ℕ} {w : Walk} → b' ≡ b → d' ≡ d → Walked b d w → Walked b' d' w
+beside e e' p = rw e (rw e' p)
+
+pub carried : {b d : List ℕ} {w : Walk} → Walked b d w → Walked w.bridge.list.now w.desk.list.now w
+carried p = beside (list_is p.of_bridge.standing) (list_is p.of_desk.standing) p
+
+pub carried_on : {b d : List ℕ} {w w' : Walk} → Walked b d w → Walked w.bridge.list.now w.desk.list.now w' → Walked b d w'
+carried_on p = beside (sym (list_is p.of_bridge.standing)) (sym (list_is p.of_desk.standing))
+
+-- a list's end is its cursor's
+pub ended : {b : List ℕ} {c : Cursor} → Standing b c → true ≡ not (ltb c.at (length c.list.now)) → length b ≤ c.at
+ended s e = omega (arith, ap length (list_is s), ltb-false _ _ (not-true _ (sym e)))
 
 -- at the end a cursor has the whole list's refusal, and whether it rises
 module _ {b : List ℕ} {c : Cursor} (s : Standing b c) (end : length b ≤ c.at) where
@@ -129,7 +145,3 @@ counts_add_up b d e =
     let (sound, sound') = sound_both b d e in
     rw (when_accepted _ (counted (tickets_of b) (tickets_of d)) _ e)
     (first_adds_up _ _ (sound_listed b sound) ∙ tickets_length b, second_adds_up _ _ (sound_listed d sound') ∙ tickets_length d)
-
-pub length_refused : (b d : List ℕ) → length_wrong b or length_wrong d ≡ true → 3 ≡ reconcile_answer b d
-unfolding reconcile_answer ◌when◌ ◌or_else◌
-length_refused b d wrong = rw wrong refl

@@ -58,8 +58,8 @@ module _ {own other : List ℕ} {c d : Cursor} {alike differing only only' : ℕ
 
     -- and so the other list has it
     pub seen_passed : {c' : Cursor} → as_place c' ≡ place_at own (c.at / ticket_length + 1) → ListWalked other own d c' alike differing only'
-    seen_passed e =
-        let (place, _, _) = moved mine.standing own_inside e in
+    seen_passed {c'} e =
+        let (place, _, _) = moved mine.standing {c' = c'} own_inside e in
         record {
           standing = theirs.standing;
           adds_up = theirs.adds_up;
@@ -77,9 +77,9 @@ module _ {own other : List ℕ} {c d : Cursor} {alike differing only only' : ℕ
       → (same : Bool) → same_ticket c.head d.head ≡ same
       → {c' d' : Cursor} → as_place c' ≡ place_at own (c.at / ticket_length + 1) → as_place d' ≡ place_at other (d.at / ticket_length + 1)
       → ListWalked own other c' d' (cond same (alike + 1) alike) (cond (not same) (differing + 1) differing) only
-  both_passed inside-own inside-other e same told e₁ e₂ =
+  both_passed inside-own inside-other e same told {d' = d'} e₁ e₂ =
       let (place, _, standing') = moved mine.standing inside-own e₁ in
-      let (place', _, _) = moved theirs.standing inside-other e₂ in
+      let (place', _, _) = moved theirs.standing {c' = d'} inside-other e₂ in
       record {
         standing = standing';
         adds_up = one_of_two same ∙ omega (arith, place, mine.adds_up);
@@ -99,12 +99,12 @@ pub past_both : {b d : List ℕ} {w : Walk} → Walked b d w → w.bridge.at < l
     → {c' d' : Cursor} → as_place c' ≡ place_at b (w.bridge.at / ticket_length + 1) → as_place d' ≡ place_at d (w.desk.at / ticket_length + 1)
     → Walked b d (as_walk c' d' (cond same (w.counts.alike + 1) w.counts.alike) (cond (not same) (w.counts.differing + 1) w.counts.differing) w.counts.only_bridge w.counts.only_desk)
     × (w.bridge.at + w.desk.at < c'.at + d'.at)
-past_both p inside-bridge inside-desk e same told e₁ e₂ =
+past_both p inside-bridge inside-desk e same told {c' = c'} {d' = d'} e₁ e₂ =
     let mine = p.of_bridge in
     let theirs = p.of_desk in (
       record {
         of_bridge = both_passed mine theirs inside-bridge inside-desk e same told e₁ e₂;
         of_desk = both_passed theirs mine inside-desk inside-bridge (sym e) same (same_exchanged _ _ ∙ told) e₂ e₁;
       },
-      omega (arith, (moved mine.standing inside-bridge e₁).1, (moved theirs.standing inside-desk e₂).1),
+      omega (arith, (moved mine.standing {c' = c'} inside-bridge e₁).1, (moved theirs.standing {c' = d'} inside-desk e₂).1),
     )

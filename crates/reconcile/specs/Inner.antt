@@ -20,20 +20,22 @@ end_ticket = as_ticket (suc number_limit) 0 0 0 0
 unfoldable pub read_at : List ℕ → ℕ → Reading
 read_at b k = cond (ltb k (tickets_in b)) (reading (ticket_part b k)) (handed_back 0 end_ticket)
 
--- What a cursor says: where it is, the number of the first refusal among the tickets up to it, whether their numbers rise, and the ticket there.
+-- What a cursor says: its list and where it is there, the number of the first refusal among the tickets up to it, whether their numbers rise, and the ticket.
 pub record Place : Type 0 where
+  pub list : List ℕ
   pub at : ℕ
   pub answer : ℕ
   pub rises : Bool
   pub head : Ticket
 
 abbrev pub as_place : Cursor → Place
-as_place c = record { at = c.at; answer = answered c.answer; rises = c.rises; head = c.head }
+as_place c = record { list = c.list.now; at = c.at; answer = answered c.answer; rises = c.rises; head = c.head }
 
 -- place k of a list
 unfoldable pub place_at : List ℕ → ℕ → Place
 place_at b k =
     record {
+      list = b;
       at = k * ticket_length;
       answer = first (suc k) (λ j. (read_at b j).answer);
       rises = every k (λ j. ltb (read_at b j).ticket.number (read_at b (suc j)).ticket.number);

@@ -40,7 +40,7 @@ reconcile_answer bridge desk =
     or_else 36 when not (numbers_rise (tickets_of bridge))
     or_else 37 when not (numbers_rise (tickets_of desk))
 
--- what comparing hands back: 0 and the four counts, or a refusal's number beside zeros
+-- what comparing comes to: 0 and the four counts, or a refusal's number beside zeros
 pub record Reconciliation : Type 0 where
   pub answer : ℕ
   pub alike : ℕ

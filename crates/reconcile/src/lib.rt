@@ -25,6 +25,7 @@ pub struct Counts {
 }
 
 // No multiple of 11, or over 4,096 tickets.
+#[tactic(auto, unfolding(crate::specs::Lists::length_wrong, rules::proofs::Cases::Table::open_loops))]
 fn length_wrong(list: &[u8]) -> bool
     ensures { result ≡ length_wrong list.now }
 {
@@ -33,6 +34,7 @@ fn length_wrong(list: &[u8]) -> bool
 
 // Compares two lists of tickets; refused with 3 for a length, then with each bridge ticket's own refusal and each desk ticket's, then with 36 and 37 where the
 // bridge's numbers and the desk's do not rise.
+#[tactic(auto, unfolding(crate::specs::Lists::reconcile_answer, crate::specs::Lists::reconciliation, rules::proofs::Cases::Table::open_refusals, rules::proofs::Cases::Table::open_loops))]
 pub fn reconcile(bridge: &[u8], desk: &[u8]) -> Result<Counts, Refusal>
     ensures { as_reconciliation result ≡ reconciliation bridge.now desk.now }
 {
@@ -50,8 +52,8 @@ pub fn reconcile(bridge: &[u8], desk: &[u8]) -> Result<Counts, Refusal>
         },
     };
     // A `while`, since a step passes a ticket of one list or of both, and no index counts the steps.
-    while walk.bridge.at < bridge.len() || walk.desk.at < desk.len() {
-        walk = step(bridge, desk, walk);
+    while !walk.bridge.at_end() || !walk.desk.at_end() {
+        walk = step(walk);
     }
     judge(walk.bridge, walk.desk)?;
     Ok(walk.counts)

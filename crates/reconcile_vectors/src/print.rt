@@ -51,11 +51,8 @@ pub(crate) fn load(number: u32, tonnes: u32) -> Ticket {
 
 // Writes ticket k of a list, where it has room for it; a ticket with a wrong field leaves the bytes as they are.
 pub(crate) fn put(list: &mut [u8], k: usize, ticket: Ticket) {
-    if k <= 4_096 {
-        let at = Ticket::LENGTH * k;
-        if at + Ticket::LENGTH <= list.len() {
-            ticket.write(&mut list[at..at + Ticket::LENGTH]).ok();
-        }
+    if let Some(place) = list.chunks_exact_mut(Ticket::LENGTH).nth(k) {
+        ticket.write(place).ok();
     }
 }
 

@@ -1,15 +1,7 @@
 // What is refused, and what of two faults is told.
 use crate::print::{pair, parts, three};
+use samples::with;
 use std::io;
-
-// A list with one byte replaced.
-fn with(list: [u8; 33], at: usize, byte: u8) -> [u8; 33] {
-    let mut wrong = list;
-    if let Some(place) = wrong.get_mut(at) {
-        *place = byte;
-    }
-    wrong
-}
 
 // 2 4 6, and the same with one byte replaced.
 fn right() -> [u8; 33] {

@@ -1,7 +1,7 @@
 -- What a proof needs of a call that was refused: its number is not 0, and a `?` hands on just that refusal.
-use Rattle.std.proofs.Common.{◌≡◌, ap, refl, false, eqb, Result, Ok, Err}
-use borrow.Author.Tests.{ne_eqb}
+use Rattle.std.proofs.Common.{◌≡◌, ap, refl, Result, Ok, Err}
 use Rattle.std.specs.Result.{IsErrAnd}
+use Rattle.std.proofs.lemmas.Result.{err_from_is_err_and}
 use Rattle.refusal.specs.declared.Refusal.{Refusal}
 use Rattle.refusal.specs.declared.Refusal.TheVariants.{BookShort, HeadWrong, LengthWrong, ContentsWrong, OpeningUnlawful, TallyWrong, RightsNegative, BufferShort, PileAbsent, DeskAbsent, ReceiverWrong, AmountWrong, RightsShort, LimitReached, CopyShort, CopyHeadWrong, CopyLengthWrong, CopyContentsWrong, CopyOpeningUnlawful, CopyTallyWrong, CopyRightsNegative, OpeningDiffers, RowsSplit, OwnRowBehind, DigitsWrong, TicketPileWrong, KindOrDeskWrong, BridgeNotRising, DeskNotRising}
 use Rattle.refusal.specs.Answers.{number_of, answered}
@@ -38,9 +38,6 @@ number_is_not_0 KindOrDeskWrong e = cc
 number_is_not_0 BridgeNotRising e = cc
 number_is_not_0 DeskNotRising e = cc
 
-pub not_done : (refusal : Refusal) → eqb (number_of refusal) 0 ≡ false
-not_done refusal = ne_eqb (number_of refusal) 0 (number_is_not_0 refusal)
-
 -- a call that is answered 0 is done
 pub done_of : {A : Type 0} (r : Result A Refusal) → answered r ≡ 0 → (x : A) × (r ≡ Ok x)
 done_of (Ok x) e = (x, refl)
@@ -50,3 +47,6 @@ done_of (Err refusal) e = absurd (number_is_not_0 refusal e)
 pub handed_on : {A : Type 0} (r : Result A Refusal) (refusal : Refusal) → IsErrAnd r (λ e. e ≡ refusal) → answered r ≡ number_of refusal
 handed_on (Ok x) refusal h = absurd h
 handed_on (Err e) refusal h = ap number_of h
+
+-- what tells a `grind` of a refusal that a `?` handed on
+pub ruleset refusals = (err_from_is_err_and, number_is_not_0)

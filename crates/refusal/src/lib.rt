@@ -4,9 +4,6 @@
 ghost use Rattle.std.specs.Prelude.{◌≡◌};
 ghost use Rattle.refusal.specs.Answers.{number_of, answered};
 
-use std::error::Error;
-use std::fmt;
-
 // 21 to 27 say of a take's copy what 1 to 7 say of a book.
 #[derive(Clone, Copy, Debug, PartialEq, Eq, PartialOrd, Ord, Hash)]
 pub enum Refusal {

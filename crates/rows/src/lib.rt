@@ -9,7 +9,7 @@ use layout::lengths::{NUMBER, is_row_length};
 use number::get4;
 use refusal::Refusal;
 
-// What comparing two rows tells: they are alike, mine is later, the copy's is, or they are split. Slices that are no two rows of one length are refused.
+// What comparing two rows tells: they are alike, mine is later, the copy's is, or they are split.
 #[derive(Clone, Copy, Debug, PartialEq, Eq)]
 pub enum Comparison {
     Alike,

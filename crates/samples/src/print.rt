@@ -13,6 +13,14 @@ pub fn amount(rt: &impl Print, told: Result<u32, Refusal>) -> io::Result<()> {
     }
 }
 
+// What a line tells of a record that was made: where it is refused, the record of all zeros stands beside the answer.
+pub fn made(told: Result<Pile, Refusal>) -> Outcome {
+    Outcome {
+        answer: told.map(|_| ()),
+        pile: told.unwrap_or(Pile::zero()),
+    }
+}
+
 // A line with a label, an answer, and the tonnage and the draw and tip rights of desks 0, 1 and 2 of the record beside it, which is handed back for the
 // next act.
 pub fn line(rt: &impl Print, label: &str, e: Outcome) -> io::Result<Pile>

@@ -1,5 +1,5 @@
-pub mod Lines
-pub mod Lists
 pub mod Fetched
+pub mod Lists
 pub mod OpeningRuns
 pub mod RoundTrip
+pub mod Runs

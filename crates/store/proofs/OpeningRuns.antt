@@ -3,7 +3,7 @@
 use Prim.Native.Nat.{ℕ, zero, suc, ◌+◌, ◌*◌, ◌≤◌, ◌<◌}
 use native.Mathlib.Nat.{zero-lt-suc}
 use native.Mathlib.Omega.{arith}
-use mathlib.Core.Path.{◌≡◌, ap, sym, ◌∙◌}
+use mathlib.Core.Path.{◌≡◌, refl, ap, sym, ◌∙◌}
 use mathlib.Core.Bool.{Bool, true}
 use mathlib.Core.List.{List}
 use lib.ListN.{get_or}
@@ -20,6 +20,7 @@ use Rattle.rules.proofs.Pile.Facts.{both_at}
 use Rattle.rules.proofs.Pile.Agree.{same_opening_lem}
 use Rattle.rules.proofs.File.Body.{column_below, row_within}
 use Rattle.padding.specs.Lists.{numbers_record}
+use Rattle.padding.proofs.Halves.{front_is, tips_at}
 use Rattle.padding.proofs.Cells.{record_cell_lem}
 
 -- the runs: floor, top and draw shares, and the tip shares, so many bytes behind the body's start
@@ -28,6 +29,9 @@ first_run b at l k = eqb (get_or l (1 + k) 0) (number 4 b (at + k * 4))
 
 abbrev pub second_run : List ℕ → ℕ → List ℕ → ℕ → ℕ → Bool
 second_run b at l behind k = eqb (get_or l (11 + k) 0) (number 4 b (at + behind + k * 4))
+
+pub tips_there : (n : ℕ) → cell_at n 0 (column n tip 0) ≡ 8 + 4 * n
+tips_there n = tips_at n refl refl
 
 module _ (l b : List ℕ) (at n : ℕ) (n≤8 : n ≤ 8) where
   abbrev R : Pile
@@ -84,10 +88,13 @@ module _ (l b : List ℕ) (at n : ℕ) (n≤8 : n ≤ 8) where
       second i i<n =
           eq-eqb _ _ (ap (λ (k : ℕ). get_or l k 0) (omega arith) ∙ sym (share_list tip i i<n) ∙ share tip i i<n ∙ of_body (2 + (n + i)) (omega arith))
 
-  pub same_runs : every (2 + n) first_run_here and every n second_run_here ≡ same_opening n R B
-  same_runs = same _ _ alike runs
+  pub same_runs : {columns front tips count : ℕ} → columns ≡ column n tip 0 → front ≡ columns → tips ≡ cell_at n 0 columns → count ≡ n
+      → same_opening n R B ≡ every front first_run_here and every count (second_run b at l tips)
+  same_runs is all start counted = rw (all ∙ front_is n is, tips_at n is start, counted) (sym (same _ _ alike runs))
 
 -- the opening's row lies within a body
 pub opening_within : (n : ℕ) → 8 * (n + 1) ≤ body_length n
 unfolding row_length
 opening_within n = omega (arith, row_within n 0 (zero-lt-suc n))
+
+pub ruleset opening_row = (opening_within, tips_there)

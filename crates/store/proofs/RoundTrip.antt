@@ -17,17 +17,14 @@ use Rattle.rules.proofs.Loops.Sets.{part_sets}
 use Rattle.rules.proofs.Record.RecordOf.{length_shares, length_tallies}
 use Rattle.rules.proofs.Record.RoundTrip.{fetched_is, fetch_store, store_fetch}
 use Rattle.padding.specs.Lists.{shares_at, tallies_at, record_length, body_numbers, record_numbers, numbers_record}
-use Rattle.pile.proofs.RecordNumbers.{length_record, numbers_again}
+use Rattle.pile.proofs.RecordNumbers.{length_record}
 use Rattle.store.specs.Numbers.{fetch_numbers_answer, after_fetch_numbers, store_numbers_answer}
 use Rattle.store.specs.Laws.{fetched_numbers, FetchStoreNumbers, StoreFetchNumbers}
-use Rattle.store.proofs.Lists.{store_list, stored_record}
+use Rattle.store.proofs.Lists.{as_record_lem, after_record, record_stored, record_left}
 
 -- a record's numbers are as many as a list must have
 sized : (r : Record) → InMemory r → length (record_numbers r) ≡ record_length
 sized r arrays = length_record r arrays.shares_long arrays.tallies_long
-
-again : (r : Record) → InMemory r → numbers_record (record_numbers r) ≡ r
-again r arrays = numbers_again r arrays.shares_long arrays.tallies_long
 
 -- and a list of that length is the numbers of its record
 first_three : (l : List ℕ) → 3 ≤ length l → part 0 3 l ≡ get_or l 0 0 ∷ get_or l 1 0 ∷ get_or l 2 0 ∷ []
@@ -80,16 +77,17 @@ fetch_store_numbers b number out octets accepted =
     let r = fetched b number in
     let arrays = fetched_arrays b number out found room in
     let restored = fetch_store b number octets found in
-    let stored = store_list b number (record_numbers r) (sized r arrays) {m = 0} {after = b} (rw (again r arrays) (sym restored.0, sym restored.1)) in
-    rw (fetched_list b number out found room) (sym stored.0, sym stored.1)
+    rw (fetched_list b number out found room) (
+      record_stored b number r arrays.shares_long arrays.tallies_long ∙ restored.0,
+      record_left b number r arrays.shares_long arrays.tallies_long ∙ restored.1,
+    )
 
 pub store_fetch_numbers : StoreFetchNumbers
 unfolding store_numbers_answer
 store_fetch_numbers b number l out octets accepted room =
     let long : length l ≡ record_length = eqb-true _ _ (when_not_done 2 _ (or_else_first _ _ (or_else_rest _ _ accepted))) in
-    let as_record_lem = stored_record b number l long (sym accepted, refl) in
-    let kept = store_fetch b number (numbers_record l) octets (list_in_memory l long) (sym as_record_lem.0) in
-    rw as_record_lem.1 (
+    let kept = store_fetch b number (numbers_record l) octets (list_in_memory l long) (sym (as_record_lem b number l long) ∙ accepted) in
+    rw (after_record b number l long) (
       answered _ number out kept.0 room,
       fetched_list _ number out kept.0 room ∙ ap record_numbers kept.1 ∙ list_again l long,
     )

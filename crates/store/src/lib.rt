@@ -17,6 +17,7 @@ use refusal::Refusal;
 use same::same_opening;
 
 // The pile of a number, as a record; refused with 1 to 7 or 10.
+#[tactic(auto, using(crate::proofs::Fetched::fetches))]
 pub fn fetch(book: &[u8], number: u16) -> Result<Pile, Refusal>
     ensures answer { answered result ≡ fetch_answer book.now number }
     ensures pile { IfOk result (λ pile. as_record pile ≡ fetched book.now number) }
@@ -26,6 +27,7 @@ pub fn fetch(book: &[u8], number: u16) -> Result<Pile, Refusal>
 }
 
 // Stores a record as the body of its pile; refused with 1 to 7 or 10 for the book, then 2, 5, 6 or 7 for the record, then 30 where n or opening differs.
+#[tactic(auto, using(crate::proofs::Lists::record_stored, crate::proofs::Lists::record_left))]
 pub fn store(book: &mut [u8], number: u16, pile: Pile) -> Result<(), Refusal>
     ensures answer { answered result ≡ store_answer book.old number (as_record pile) }
     ensures book { book.new ≡ after_store book.old number (as_record pile) }
@@ -35,6 +37,7 @@ pub fn store(book: &mut [u8], number: u16, pile: Pile) -> Result<(), Refusal>
 }
 
 // Fetches a pile into a lent list; refused with 1 to 7 or 10, and last with 8 where the list is shorter than a record. Numbers past the record stay.
+#[tactic(auto, using(crate::proofs::Fetched::fetches), unfolding(crate::specs::Numbers::fetch_numbers_answer, crate::specs::Numbers::after_fetch_numbers))]
 pub fn fetch_numbers(book: &[u8], number: u16, out: &mut [u32]) -> Result<(), Refusal>
     ensures answer { answered result ≡ fetch_numbers_answer book.now number (length out.old) }
     ensures out { out.new ≡ after_fetch_numbers book.now number out.old }
@@ -48,6 +51,7 @@ pub fn fetch_numbers(book: &[u8], number: u16, out: &mut [u32]) -> Result<(), Re
 
 // Stores a list as the record of a pile; refused with 1 to 7 or 10 for the book, then 3 where the list has another length than a record, then 2, 5, 6 or 7
 // for the record, then 30 where n or opening differs.
+#[tactic(auto, using(crate::proofs::Lists::stores), unfolding(crate::specs::Numbers::after_store_numbers))]
 pub fn store_numbers(book: &mut [u8], number: u16, numbers: &[u32]) -> Result<(), Refusal>
     ensures answer { answered result ≡ store_numbers_answer book.old number numbers.now }
     ensures book { book.new ≡ after_store_numbers book.old number numbers.now }

@@ -22,6 +22,7 @@ pub fn take(own: &mut [u8], copy: &[u8], desk: u8) -> Result<u32, Refusal>
     ensures changed { IfOk result (λ changed. changed ≡ take_report desk own.old copy.now) }
     ensures book { own.new ≡ after_take desk own.old copy.now }
 {
+    // They are lent to those who set them: handed back by value, a take of a small book took half as long again.
     let mut marks = [false; ROWS];
     take_answer(own, copy, desk, &mut marks)?;
     let head = head_of(own);

@@ -1,5 +1,5 @@
+pub mod Opened
 pub mod Digits
-pub mod Lines
 pub mod RoundTrip
 pub mod Consequences
 pub mod Cases

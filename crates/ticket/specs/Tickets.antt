@@ -58,7 +58,7 @@ read_answer b =
 unfoldable pub write_answer : Ticket → List ℕ → ℕ
 write_answer t out = fields_answer true true true t or_else 8 when ltb (length out) ticket_length
 
--- what a reading hands back: its answer, and the ticket, which beside a refusal is that of all zeros
+-- what a reading comes to: its answer, and the ticket, which beside a refusal is that of all zeros
 pub record Reading : Type 0 where
   pub answer : ℕ
   pub ticket : Ticket

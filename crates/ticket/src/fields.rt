@@ -8,19 +8,13 @@ ghost use Rattle.ticket.specs.Tickets.{number_limit};
 
 use refusal::Refusal;
 
-// Both limits are within.
-fn between(low: u32, high: u32, x: u32) -> bool
-    ensures { result ≡ between low high x }
-{
-    low <= x && x <= high
-}
-
 // A value within its limits, or else this refusal.
+#[tactic(auto, unfolding(rules::proofs::Cases::Table::open_refusals, rules::proofs::Cases::Table::open_loops))]
 fn within(low: u32, high: u32, refusal: Refusal, x: u32) -> Result<u32, Refusal>
     ensures answer { answered result ≡ number_of refusal when not (between low high x) }
     ensures value { IfOk result (λ value. value ≡ x) }
 {
-    if !between(low, high, x) {
+    if !(low..=high).contains(&x) {
         return Err(refusal);
     }
     Ok(x)
@@ -53,18 +47,13 @@ pub(crate) fn kind(x: u8) -> Result<u8, Refusal>
     ensures answer { answered result ≡ 35 when not (between 1 2 x) }
     ensures value { IfOk result (λ value. value ≡ x) }
 {
-    if !between(1, 2, u32::from(x)) {
-        return Err(Refusal::KindOrDeskWrong);
-    }
-    Ok(x)
+    within(1, 2, Refusal::KindOrDeskWrong, u32::from(x)).map(|_| x)
 }
 
+#[tactic(auto, unfolding(rules::proofs::Cases::Table::open_refusals, rules::proofs::Cases::Table::open_loops))]
 pub(crate) fn desk(x: u8) -> Result<u8, Refusal>
     ensures answer { answered result ≡ 35 when ltb 7 x }
     ensures value { IfOk result (λ value. value ≡ x) }
 {
-    if 7 < x {
-        return Err(Refusal::KindOrDeskWrong);
-    }
-    Ok(x)
+    within(0, 7, Refusal::KindOrDeskWrong, u32::from(x)).map(|_| x)
 }

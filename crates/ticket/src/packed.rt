@@ -1,6 +1,5 @@
 // Packed decimal in a byte slice: two digits a byte, the high digit first.
-ghost use Rattle.std.specs.Prelude.{◌≡◌, ◌+◌, ◌≤◌, ◌<◌, not, IfOk, length};
-ghost use Rattle.std.proofs.lemmas.List.Edits.{sets};
+ghost use Rattle.std.specs.Prelude.{◌≡◌, ◌≤◌, ◌<◌, not, IfOk, length};
 ghost use Rattle.rules.specs.Refusals.{◌when◌};
 ghost use Rattle.refusal.specs.Answers.{answered};
 ghost use Rattle.ticket.specs.Packed.{pair_number, pair_byte, pair_right, packed_number, packed_bytes, digits_right};
@@ -15,6 +14,7 @@ fn pair_number(b: u8) -> u8
 }
 
 // Neither digit is above 9.
+#[tactic(auto, unfolding(crate::specs::Packed::pair_right, rules::proofs::Cases::Table::open_loops))]
 fn pair_right(b: u8) -> bool
     ensures { result ≡ pair_right b }
 {
@@ -29,15 +29,14 @@ fn pair_byte(x: u8) -> u8
     16 * (x / 10) + x % 10
 }
 
-// The number that the w bytes at a position say, in one pass; refused with 33 where a digit is above 9. Right digits keep the number within 2³².
-pub(crate) fn unpack(s: &[u8], at: usize, w: usize) -> Result<u32, Refusal>
-    requires { (w ≤ 4) × (at + w ≤ length s.now) }
-    ensures answer { answered result ≡ 33 when not (digits_right w s.now at) }
-    ensures number { IfOk result (λ number. number ≡ packed_number w s.now at) }
+// The number that at most 4 bytes say, in one pass; refused with 33 where a digit is above 9. Right digits keep the number within 2³².
+pub(crate) fn unpack(part: &[u8]) -> Result<u32, Refusal>
+    requires { length part.now ≤ 4 }
+    ensures answer { answered result ≡ 33 when not (digits_right (length part.now) part.now 0) }
+    ensures number { IfOk result (λ number. number ≡ packed_number (length part.now) part.now 0) }
 {
     let mut number = 0;
-    for k in 0..w {
-        let byte = s[at + k];
+    for &byte in part {
         if !pair_right(byte) {
             return Err(Refusal::DigitsWrong);
         }
@@ -46,14 +45,14 @@ pub(crate) fn unpack(s: &[u8], at: usize, w: usize) -> Result<u32, Refusal>
     Ok(number)
 }
 
-// Writes a number over the w bytes at a position, which are there, the last two digits first.
-pub(crate) fn pack(s: &mut [u8], at: usize, w: usize, x: u32)
-    requires { at + w ≤ length s.old }
-    ensures { s.new ≡ sets s.old at (packed_bytes w x) }
+// Writes a number over all of these bytes, the last two digits first.
+#[tactic(auto, using(crate::proofs::Digits::last_first, crate::proofs::Digits::over_all), unfolding(crate::specs::Packed::packed_bytes))]
+pub(crate) fn pack(part: &mut [u8], x: u32)
+    ensures { part.new ≡ packed_bytes (length part.old) x }
 {
     let mut rest = x;
-    for k in (0..w).rev() {
-        s[at + k] = pair_byte((rest % 100) as u8);
+    for k in (0..part.len()).rev() {
+        part[k] = pair_byte((rest % 100) as u8);
         rest /= 100;
     }
 }

@@ -4,7 +4,7 @@ use layout::lengths::body_length;
 use opening::open;
 use pile::Pile;
 use refusal::{Refusal, answer};
-use samples::amount;
+use samples::{amount, first};
 use std::io;
 use store::{fetch, store};
 
@@ -90,10 +90,7 @@ fn lengths(rt: &impl Print) -> io::Result<()> {
 
 // The check of a book's first bytes alone.
 fn check_first(rt: &impl Print, label: &str, book: &[u8], count: usize) -> io::Result<()> {
-    if count <= book.len() {
-        told(rt, label, check(&book[0..count]))?;
-    }
-    Ok(())
+    told(rt, label, check(first(book, count)))
 }
 
 // The shortest book, and less of it.

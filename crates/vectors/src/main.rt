@@ -10,21 +10,12 @@ mod tickets;
 ghost use Rattle.std.specs.Prelude.{◌<◌};
 
 use pile::{Outcome, Pile, SHARES, TALLIES};
-use samples::line;
+use samples::{line, made};
 use std::io;
 
 // A fresh record, or where it is refused that of all zeros.
 pub(crate) fn fresh(n: u8, floor: u32, top: u32, shares: [u32; SHARES]) -> Outcome {
-    match Pile::fresh(n, floor, top, shares) {
-        Ok(pile) => Outcome {
-            answer: Ok(()),
-            pile,
-        },
-        Err(refusal) => Outcome {
-            answer: Err(refusal),
-            pile: Pile::zero(),
-        },
-    }
+    made(Pile::fresh(n, floor, top, shares))
 }
 
 // G: F after its seven acts, with cases b and d refused first.

@@ -7,7 +7,7 @@ use bounds::{Bounded, bounds_in, least, most, pile_least, pile_most};
 use opening::open;
 use pile::{PLACES, Pile};
 use refusal::Refusal;
-use samples::amount;
+use samples::{amount, first};
 use std::io;
 use store::store;
 
@@ -143,10 +143,7 @@ fn bodies(rt: &impl Print, book: &[u8]) -> io::Result<()> {
 
 // A book's first bytes alone.
 fn of_first(rt: &impl Print, label: &str, book: &[u8], count: usize) -> io::Result<()> {
-    if count <= book.len() {
-        of_book(rt, label, &book[0..count], 0, 7)?;
-    }
-    Ok(())
+    of_book(rt, label, first(book, count), 0, 7)
 }
 
 // A book with one byte of it set. The book's own refusal comes before that of the desk, which is none.

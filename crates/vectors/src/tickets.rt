@@ -1,11 +1,20 @@
 // Weighbridge tickets: the worked one, the first and the last value of each field and what lies outside, and which of two faults is told.
-ghost use Rattle.std.specs.Prelude.{◌<◌};
+ghost use Rattle.std.specs.Prelude.{◌+◌, ◌≤◌};
 
 use refusal::answer;
 use std::io;
 use ticket::Ticket;
 
 const BYTES: usize = 11;
+
+// Where its number, pile and tonnes start, and its kind with the desk behind it.
+const NUMBER: usize = 0;
+
+const PILE: usize = 4;
+
+const TONNES: usize = 7;
+
+const KIND_AND_DESK: usize = 9;
 
 // Ticket 12345678: desk 0 tips 30 tonnes onto pile 7.
 const WORKED: [u8; BYTES] = [
@@ -28,60 +37,32 @@ fn read(rt: &impl Print, label: &str, bytes: &[u8]) -> io::Result<()> {
     }
 }
 
-// The worked ticket with the bytes of one field replaced.
-fn read_number(rt: &impl Print, label: &str, a: u8, b: u8, c: u8, d: u8) -> io::Result<()> {
-    let mut bytes = WORKED;
-    bytes[0] = a;
-    bytes[1] = b;
-    bytes[2] = c;
-    bytes[3] = d;
-    read(rt, label, &bytes)
-}
-
-fn read_pile(rt: &impl Print, label: &str, a: u8, b: u8, c: u8) -> io::Result<()> {
-    let mut bytes = WORKED;
-    bytes[4] = a;
-    bytes[5] = b;
-    bytes[6] = c;
-    read(rt, label, &bytes)
-}
-
-fn read_tonnes(rt: &impl Print, label: &str, a: u8, b: u8) -> io::Result<()> {
-    let mut bytes = WORKED;
-    bytes[7] = a;
-    bytes[8] = b;
-    read(rt, label, &bytes)
-}
-
-fn read_kind_and_desk(rt: &impl Print, label: &str, kind: u8, desk: u8) -> io::Result<()> {
-    let mut bytes = WORKED;
-    bytes[9] = kind;
-    bytes[10] = desk;
-    read(rt, label, &bytes)
-}
-
-fn write_first(
+// The worked ticket with some of its bytes replaced.
+fn read_with<const N: usize>(
     rt: &impl Print,
     label: &str,
-    ticket: Ticket,
-    out: &mut [u8],
-    room: usize,
-) -> io::Result<()> {
-    if room <= out.len() {
-        let told = ticket.write(&mut out[0..room]);
-        print!(rt; "write {label}: {}", answer(told))?;
-        for byte in &*out {
-            print!(rt; " {byte:02x}")?;
-        }
-        println!(rt;)?;
-    }
-    Ok(())
+    at: usize,
+    field: [u8; N],
+) -> io::Result<()>
+    requires { at + N ≤ BYTES }
+{
+    let mut bytes = WORKED;
+    bytes[at..at + N].copy_from_slice(&field);
+    read(rt, label, &bytes)
 }
 
 // A writing into the first bytes of a buffer of 13, all ee: its answer, and the whole buffer after it, in hexadecimal.
 fn write(rt: &impl Print, label: &str, ticket: Ticket, room: usize) -> io::Result<()> {
     let mut buffer = [0xeeu8; 13];
-    write_first(rt, label, ticket, &mut buffer, room)
+    if let Some(out) = buffer.get_mut(..room) {
+        let told = ticket.write(out);
+        print!(rt; "write {label}: {}", answer(told))?;
+        for byte in &buffer {
+            print!(rt; " {byte:02x}")?;
+        }
+        println!(rt;)?;
+    }
+    Ok(())
 }
 
 fn ticket_of(number: u32, pile: u32, tonnes: u32, kind: u8, desk: u8) -> Ticket {
@@ -96,32 +77,47 @@ fn ticket_of(number: u32, pile: u32, tonnes: u32, kind: u8, desk: u8) -> Ticket 
 
 // Each field at its limits and just outside: digits first, then values.
 fn fields_read(rt: &impl Print) -> io::Result<()> {
-    read_number(rt, "number 0", 0x00, 0x00, 0x00, 0x00)?;
-    read_number(rt, "number 99999999", 0x99, 0x99, 0x99, 0x99)?;
-    read_number(rt, "number, first digit 10", 0xa0, 0x00, 0x00, 0x00)?;
-    read_number(rt, "number, last digit 10", 0x12, 0x34, 0x56, 0x7a)?;
-    read_number(rt, "number, last digit 15", 0x12, 0x34, 0x56, 0x7f)?;
-    read_pile(rt, "pile, first digit 10", 0xa0, 0x00, 0x07)?;
-    read_pile(rt, "pile, last digit 10", 0x00, 0x00, 0x0a)?;
-    read_pile(rt, "pile 0", 0x00, 0x00, 0x00)?;
-    read_pile(rt, "pile 1", 0x00, 0x00, 0x01)?;
-    read_pile(rt, "pile 65535", 0x06, 0x55, 0x35)?;
-    read_pile(rt, "pile 65536", 0x06, 0x55, 0x36)?;
-    read_pile(rt, "pile 999999", 0x99, 0x99, 0x99)?;
-    read_tonnes(rt, "tonnes, first digit 10", 0xa0, 0x30)?;
-    read_tonnes(rt, "tonnes, last digit 10", 0x00, 0x3a)?;
-    read_tonnes(rt, "tonnes 0", 0x00, 0x00)?;
-    read_tonnes(rt, "tonnes 1", 0x00, 0x01)?;
-    read_tonnes(rt, "tonnes 1000", 0x10, 0x00)?;
-    read_tonnes(rt, "tonnes 1001", 0x10, 0x01)?;
-    read_tonnes(rt, "tonnes 9999", 0x99, 0x99)?;
-    read_kind_and_desk(rt, "kind 0", 0, 0)?;
-    read_kind_and_desk(rt, "kind 2", 2, 0)?;
-    read_kind_and_desk(rt, "kind 3", 3, 0)?;
-    read_kind_and_desk(rt, "kind 255", 255, 0)?;
-    read_kind_and_desk(rt, "desk 7", 1, 7)?;
-    read_kind_and_desk(rt, "desk 8", 1, 8)?;
-    read_kind_and_desk(rt, "desk 255", 1, 255)
+    read_with(rt, "number 0", NUMBER, [0x00, 0x00, 0x00, 0x00])?;
+    read_with(rt, "number 99999999", NUMBER, [0x99, 0x99, 0x99, 0x99])?;
+    read_with(
+        rt,
+        "number, first digit 10",
+        NUMBER,
+        [0xa0, 0x00, 0x00, 0x00],
+    )?;
+    read_with(
+        rt,
+        "number, last digit 10",
+        NUMBER,
+        [0x12, 0x34, 0x56, 0x7a],
+    )?;
+    read_with(
+        rt,
+        "number, last digit 15",
+        NUMBER,
+        [0x12, 0x34, 0x56, 0x7f],
+    )?;
+    read_with(rt, "pile, first digit 10", PILE, [0xa0, 0x00, 0x07])?;
+    read_with(rt, "pile, last digit 10", PILE, [0x00, 0x00, 0x0a])?;
+    read_with(rt, "pile 0", PILE, [0x00, 0x00, 0x00])?;
+    read_with(rt, "pile 1", PILE, [0x00, 0x00, 0x01])?;
+    read_with(rt, "pile 65535", PILE, [0x06, 0x55, 0x35])?;
+    read_with(rt, "pile 65536", PILE, [0x06, 0x55, 0x36])?;
+    read_with(rt, "pile 999999", PILE, [0x99, 0x99, 0x99])?;
+    read_with(rt, "tonnes, first digit 10", TONNES, [0xa0, 0x30])?;
+    read_with(rt, "tonnes, last digit 10", TONNES, [0x00, 0x3a])?;
+    read_with(rt, "tonnes 0", TONNES, [0x00, 0x00])?;
+    read_with(rt, "tonnes 1", TONNES, [0x00, 0x01])?;
+    read_with(rt, "tonnes 1000", TONNES, [0x10, 0x00])?;
+    read_with(rt, "tonnes 1001", TONNES, [0x10, 0x01])?;
+    read_with(rt, "tonnes 9999", TONNES, [0x99, 0x99])?;
+    read_with(rt, "kind 0", KIND_AND_DESK, [0, 0])?;
+    read_with(rt, "kind 2", KIND_AND_DESK, [2, 0])?;
+    read_with(rt, "kind 3", KIND_AND_DESK, [3, 0])?;
+    read_with(rt, "kind 255", KIND_AND_DESK, [255, 0])?;
+    read_with(rt, "desk 7", KIND_AND_DESK, [1, 7])?;
+    read_with(rt, "desk 8", KIND_AND_DESK, [1, 8])?;
+    read_with(rt, "desk 255", KIND_AND_DESK, [1, 255])
 }
 
 // Lengths beside 11, of bytes that are wrong otherwise too.
@@ -146,7 +142,7 @@ fn two_faults_read(rt: &impl Print) -> io::Result<()> {
     read(rt, "tonnes all digits 15, kind 0", &bytes)?;
     bytes[6] = 0;
     read(rt, "pile 0, tonnes all digits 15", &bytes)?;
-    read_pile(rt, "pile all digits 15", 0xff, 0xff, 0xff)?;
+    read_with(rt, "pile all digits 15", PILE, [0xff, 0xff, 0xff])?;
     bytes[3] = 0x7a;
     read(rt, "number, last digit 10, pile 0", &bytes)
 }

@@ -7,7 +7,8 @@ use borrow.Author.Rules.{rules}
 use Rattle.rules.specs.Book.{act_answer}
 use Rattle.refusal.specs.Answers.{answered}
 use Rattle.refusal.proofs.Refused.{number_is_not_0}
-use Rattle.desk.specs.Kinds.{kind_of, act}
+use Rattle.act_lines.specs.Kinds.{kind_of}
+use Rattle.desk.specs.Kinds.{act}
 use Rattle.desk.proofs.Entered.{cell_most, desk_few, desks_few, entry_refused, own_answer, lines_answer, entered}
 use Rattle.desk.proofs.enter.enter.Goals as goal
 use Rattle.desk.proofs.enter.enter.Goals.{After-act_refusal}
@@ -18,8 +19,8 @@ told : (c : After-act_refusal) → let a = c.args in
 told c =
     let a = c.args in
     let found = c.in_ok-found.ensures in
-    lines_answer _ (act (kind_of a.kind) a.number a.amount) _ (sym found.answer) found.start found.desks c.column.ensures
-    (ap (λ (x : ℕ). c.in_ok-found.found.start + x) c.cell_at.ensures) c.get4-tally.ensures c.receiver_wrong.ensures c.side.ensures c.rights_in-rights.ensures
+    lines_answer _ (act (kind_of a.kind) a.number a.amount) _ (sym found.answer) found.start found.desks c.column-column.ensures
+    (ap (λ (x : ℕ). c.in_ok-found.found.start + x) c.cell_at.ensures) c.get4-tally.ensures c.receiver_wrong.ensures c.side.ensures c.side_rights-rights.ensures
     c.act_refusal.ensures.answer
 
 pub returns-in_err-found : goal.returns-in_err-found
@@ -42,7 +43,7 @@ overflow_add-at c =
     let asked = act (kind_of a.kind) a.number a.amount in
     let row : a.desk + 1 ≤ 255 = omega (arith, desk_few a.desk asked a.book.now (sym found.answer)) in
     let n≤255 : c.in_ok-found.found.desks ≤ 255 = omega (arith, desks_few a.desk asked a.book.now (sym found.answer) found.desks) in
-    search (rules, c.cell_at.ensures, cell_most c.in_ok-found.found.desks _ c.column.result n≤255 row (omega arith))
+    search (rules, c.cell_at.ensures, cell_most c.in_ok-found.found.desks _ c.column-column.result n≤255 row (omega arith))
 
 pub returns-in_err-act_refusal : goal.returns-in_err-act_refusal
 returns-in_err-act_refusal c =
@@ -55,6 +56,6 @@ pub returns : goal.returns
 returns c =
     let a = c.args in
     let found = c.in_ok-found.ensures in
-    entered _ (act (kind_of a.kind) a.number a.amount) _ (sym found.answer) found.start found.desks c.column.ensures
+    entered _ (act (kind_of a.kind) a.number a.amount) _ (sym found.answer) found.start found.desks c.column-column.ensures
     (ap (λ (x : ℕ). c.in_ok-found.found.start + x) c.cell_at.ensures) c.get4-tally.ensures
     (sym (rw c.in_ok-act_refusal.was at (told (goal.at.returns c).After-act_refusal))) c.put4.ensures.answer c.put4.ensures.bytes

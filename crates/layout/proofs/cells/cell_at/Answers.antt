@@ -2,7 +2,7 @@
 use Prim.Native.Nat.{◌*◌, ◌≤◌}
 use native.Mathlib.Nat.{mul-le-mul}
 use native.Mathlib.Omega.{arith}
-use Rattle.rules.specs.Layout.{row_length, cell_at}
+use Rattle.rules.specs.Layout.{row_length}
 use Rattle.layout.proofs.cells.cell_at.Goals as goal
 use Rattle.layout.proofs.cells.cell_at.Goals.{After-row_length}
 
@@ -19,7 +19,3 @@ overflow_mul-result c = omega (arith, rows_most (goal.at.overflow_mul-result c).
 
 pub overflow_add-result : goal.overflow_add-result
 overflow_add-result c = omega (arith, rows_most (goal.at.overflow_add-result c).After-row_length)
-
-pub returns : goal.returns
-unfolding cell_at
-returns c = rw (c.from.ensures, c.row_length.ensures, c.from-2.ensures) (omega arith)

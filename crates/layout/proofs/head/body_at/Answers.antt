@@ -2,7 +2,7 @@
 use Prim.Native.Nat.{◌*◌, ◌≤◌}
 use native.Mathlib.Nat.{mul-le-mul}
 use native.Mathlib.Omega.{arith}
-use Rattle.layout.specs.Positions.{as_head, body_position}
+use Rattle.layout.specs.Positions.{as_head}
 use Rattle.layout.proofs.Positions.{front_most, size_most}
 use Rattle.layout.proofs.head.body_at.Goals as goal
 use Rattle.layout.proofs.head.body_at.Goals.{After-body_length}
@@ -19,7 +19,3 @@ overflow_mul-result c = omega (arith, bodies_most (goal.at.overflow_mul-result c
 
 pub overflow_add-result : goal.overflow_add-result
 overflow_add-result c = omega (arith, bodies_most (goal.at.overflow_add-result c).After-body_length, c.front_length.ensures, front_most (as_head c.args.head) (omega arith))
-
-pub returns : goal.returns
-unfolding body_position
-returns c = rw (c.front_length.ensures, c.from.ensures, c.body_length.ensures)

@@ -34,11 +34,11 @@ pub overflow_add-at : goal.overflow_add-at
 overflow_add-at c = search (rules, room (goal.at.overflow_add-at c).In-loop-k, size_is (goal.at.overflow_add-at c).At-loop-k)
 
 pub unwrap-pile-requires : goal.unwrap-pile-requires
-unwrap-pile-requires c = is_done _ (c.pile.ensures.answer ∙ first_at c.args.given.now.piles _ c.requires.lawful c.loop-k.k c.loop-k-test.true)
+unwrap-pile-requires c = is_done _ (rw (c.pile.ensures.pile, c.pile.ensures.desks) at c.record.ensures.answer ∙ first_at c.args.given.now.piles _ c.requires.lawful c.loop-k.k c.loop-k-test.true)
 
 -- the pile that is packed
 is : (c : After-unwrap-pile) → let g = c.args.given.now in as_record c.unwrap-pile.result ≡ record_of g.desks (pile_in g c.loop-k.k)
-is c = rw c.unwrap-pile.ensures at c.pile.ensures.pile
+is c = rw (c.pile.ensures.pile, c.pile.ensures.desks, c.unwrap-pile.ensures) at c.record.ensures.pile
 
 pub unwrap-requires : goal.unwrap-requires
 unwrap-requires c =

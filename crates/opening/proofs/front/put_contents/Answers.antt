@@ -25,7 +25,7 @@ loop-k-init c = none_written
 -- and its number has 2 bytes
 pub overflow_cast-number : goal.overflow_cast-number
 overflow_cast-number c =
-    let short : c.number.result < 65536 = rw c.number.ensures (number_most _ _ c.requires.rises c.loop-k.k c.loop-k-test.true) in
+    let short : c.number.result < 65536 = rw (c.number.ensures, c.pile.ensures.number) (number_most _ _ c.requires.rises c.loop-k.k c.loop-k-test.true) in
     search (rules, short)
 
 pub unwrap-requires : goal.unwrap-requires
@@ -35,4 +35,4 @@ pub loop-k-preserved : goal.loop-k-preserved
 loop-k-preserved c =
     let g = c.args.given.now in
     next_written 6 (λ j _. length_entry (book_head g) _ j) c.loop-k.invariant c.loop-k-test.true refl
-    (put_entry g _ c.loop-k.k (room (goal.at.loop-k-preserved c).In-loop-k) c.head-head.ensures c.number.ensures c.put_entry.ensures.out)
+    (put_entry g _ c.loop-k.k (room (goal.at.loop-k-preserved c).In-loop-k) c.head-head.ensures (c.number.ensures ∙ c.pile.ensures.number) c.put_entry.ensures.out)

@@ -6,14 +6,14 @@ use borrow.Author.Rules.{rules}
 use Rattle.rules.specs.Loops.{every}
 use Rattle.rules.proofs.Loops.Logic.{and_left_fails, and_left_holds}
 use Rattle.rules.proofs.Loops.Every.{every_next, every_stops}
-use Rattle.padding.proofs.Unused.{row_padding, row_at, part_zero, part_padding, unused_places_lem}
+use Rattle.padding.proofs.Unused.{same_numbers, row_padding, row_at, part_zero, part_padding, unused_places_lem}
 use Rattle.padding.proofs.zeros.rows_padding_zero.Goals as goal
 use Rattle.padding.proofs.zeros.rows_padding_zero.Goals.{After-row_padding_zero}
 
 row_zero : (c : After-row_padding_zero) → c.row_padding_zero.result ≡ row_padding c.args.numbers.now c.args.n (row_at c.loop-i.i)
 row_zero c =
     let at = row_at c.loop-i.i in
-    part_padding c.args.numbers.now at (at + 18 - at) c.args.n c.row_padding_zero.ensures (omega arith)
+    part_padding c.args.numbers.now at (at + 18 - at) c.args.n (rw (same_numbers _ _ c.as_array.ensures.cases c.unwrap.ensures) at c.row_padding_zero.ensures) (omega arith)
 
 pub loop-i-init : goal.loop-i-init
 unfolding every

@@ -4,5 +4,5 @@ use mathlib.Core.Bool.{true}
 use Rattle.ticket.specs.Packed.{packed_number, digits_right}
 use Rattle.ticket.proofs.packed.unpack.Given as goal
 
-abbrev pub invariant-loop-k : goal.invariant-loop-k
-invariant-loop-k l = (digits_right l.k l.s l.at ≡ true) × (l.number ≡ packed_number l.k l.s l.at)
+abbrev pub invariant-loop-byte : goal.invariant-loop-byte
+invariant-loop-byte l = (digits_right l.byte-index l.part 0 ≡ true) × (l.number ≡ packed_number l.byte-index l.part 0)

@@ -1,8 +1,0 @@
--- `numbers_of` sets n, floor and top, and copies the shares and the tallies, each behind the run before it.
-use Rattle.std.proofs.Common.{rules}
-use Rattle.pile.specs.View.{as_record}
-use Rattle.pile.proofs.RecordNumbers.{runs_listed}
-use Rattle.pile.proofs.lists.numbers_of.Goals as goal
-
-pub returns : goal.returns
-returns c = runs_listed (as_record c.args.pile) (search rules) (search rules) c.from.ensures c.copy_from_slice.ensures.after c.copy_from_slice-2.ensures.after
