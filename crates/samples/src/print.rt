@@ -1,5 +1,6 @@
 // Lines of a test program, on standard output. What is written no promise can say.
 ghost use Rattle.std.specs.Prelude.{◌≡◌, IfOk};
+ghost use Rattle.refusal.specs.Answers.{answered};
 
 use pile::{Outcome, Pile};
 use refusal::{Refusal, answer};
@@ -14,7 +15,10 @@ pub fn amount(rt: &impl Print, told: Result<u32, Refusal>) -> io::Result<()> {
 }
 
 // What a line tells of a record that was made: where it is refused, the record of all zeros stands beside the answer.
-pub fn made(told: Result<Pile, Refusal>) -> Outcome {
+pub fn made(told: Result<Pile, Refusal>) -> Outcome
+    ensures answer { answered result.answer ≡ answered told }
+    ensures pile { IfOk told (λ pile. result.pile ≡ pile) }
+{
     Outcome {
         answer: told.map(|_| ()),
         pile: told.unwrap_or(Pile::zero()),
