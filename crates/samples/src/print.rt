@@ -4,7 +4,9 @@ ghost use Rattle.refusal.specs.Answers.{answered};
 
 use pile::{Outcome, Pile};
 use refusal::{Refusal, answer};
+use std::convert::AsSlice;
 use std::io;
+use std::io::Write;
 
 // Tonnes, or the number of a refusal.
 pub fn amount(rt: &impl Print, told: Result<u32, Refusal>) -> io::Result<()> {
@@ -25,13 +27,14 @@ pub fn made(told: Result<Pile, Refusal>) -> Outcome
     }
 }
 
-// A line with a label, an answer, and the tonnage and the draw and tip rights of desks 0, 1 and 2 of the record beside it, which is handed back for the
-// next act.
-pub fn line(rt: &impl Print, label: &str, e: Outcome) -> io::Result<Pile>
+// A line with a label, text or bytes, an answer, and the tonnage and the draw and tip rights of desks 0, 1 and 2 of the record beside it, which is handed back for
+// the next act.
+pub fn line(rt: &impl Print, label: impl AsSlice<u8> + Drop, e: Outcome) -> io::Result<Pile>
     ensures { IfOk result (λ p. p ≡ e.pile) }
 {
     let pile = e.pile;
-    print!(rt; "{label}: {} known", answer(e.answer))?;
+    io::writer(rt).write_all(label.as_slice())?;
+    print!(rt; ": {} known", answer(e.answer))?;
     amount(rt, pile.tonnage())?;
     print!(rt; " draw")?;
     for desk in 0..3 {
