@@ -5,12 +5,14 @@ ghost use Rattle.rules.specs.Loops.{flat};
 ghost use Rattle.rules.specs.Numbers.{part};
 ghost use Rattle.take.specs.Inner.{InBoth, RowsInBoth};
 
-// Copies count bytes over those at the same position.
+// Copies count bytes over those at the same position. A loop, since `copy_from_slice` is `memmove` here, which the archive needs from outside for nothing else.
 fn copy_bytes(own: &mut [u8], copy: &[u8], at: usize, count: usize)
     requires { InBoth at count own.old copy.now }
     ensures { own.new ≡ sets own.old at (part at count copy.now) }
 {
-    own[at..at + count].copy_from_slice(&copy[at..at + count]);
+    for k in 0..count {
+        own[at + k] = copy[at + k];
+    }
 }
 
 // How many rows are marked? A book has few enough that their number fits.

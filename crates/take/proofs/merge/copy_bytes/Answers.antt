@@ -1,16 +1,24 @@
--- `copy_bytes` writes a part of the copy over that of the own book, as `sets` does.
-use Prim.Native.Nat.{◌+◌, ◌-◌}
+-- `copy_bytes` stores one byte after the other, as `sets` does.
 use native.Mathlib.Omega.{arith}
-use mathlib.Core.Path.{◌≡◌}
-use Rattle.rules.specs.Numbers.{part}
-use Rattle.rules.proofs.Loops.Parts.{length_part}
-use Rattle.number.proofs.Parts.{back_in_place}
+use mathlib.Core.Path.{sym, ◌∙◌, ap}
+use lib.Seq.{sets}
+use Rattle.rules.specs.Loops.{list}
+use Rattle.rules.proofs.Loops.Pieces.{length_list, getD_list}
+use Rattle.rules.proofs.Loops.Parts.{part_is}
+use Rattle.rules.proofs.Loops.Writing.{none_written, next_number_lem, all_numbers}
 use Rattle.take.proofs.merge.copy_bytes.Goals as goal
+use Rattle.take.proofs.merge.copy_bytes.Invariants.{byte}
+
+pub loop-k-init : goal.loop-k-init
+loop-k-init c = none_written
+
+pub loop-k-preserved : goal.loop-k-preserved
+loop-k-preserved c = next_number_lem c.loop-k.invariant c.loop-k-test.true
 
 pub returns : goal.returns
 returns c =
     let a = c.args in
-    let count : a.at + a.count - a.at ≡ a.count = omega arith in
-    let piece = part a.at a.count a.copy.now in
-    let copied : c.copy_from_slice.new.self ≡ piece = rw count at c.copy_from_slice.ensures.after in
-    rw (count, copied) (back_in_place a.own.now a.at a.count piece (length_part a.at a.count a.copy.now c.requires.in_copy) c.requires.in_own)
+    let bytes = byte a.copy.now a.at in
+    all_numbers c.loop-k.invariant (omega arith)
+    ∙ ap (sets a.own.now a.at) (sym (part_is a.at a.count a.copy.now (list a.count bytes) c.requires.in_copy (length_list a.count bytes)
+    (λ j l. sym (getD_list a.count bytes 0 j l))))
