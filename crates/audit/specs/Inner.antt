@@ -7,7 +7,6 @@ use Rattle.rules.specs.Pile.{Side, draw, tip, Pile, credit, tally_limit}
 use Rattle.rules.specs.Layout.{columns, cell_at}
 use Rattle.layout.specs.Inner.{first_body}
 use Rattle.audit.specs.declared.body.Body.{Body}
-use Rattle.audit.specs.declared.totals.SideTotals.{SideTotals}
 use Rattle.audit.specs.declared.totals.Totals.{Totals}
 
 -- the pile that a body is of
@@ -33,8 +32,8 @@ pub record SharesSet (n : ℕ) (share : ℕ → ℕ) (totals : List ℕ) : Type 
 -- the shares of both sides: the totals of n desks start with them, and they come to a sum
 pub record SharesRead (p : Pile) (n shares : ℕ) (totals : Totals) : Type 0 where
   pub sum : shares ≡ sum n (p.share draw) + sum n (p.share tip)
-  pub draws : SharesSet n (p.share draw) totals.draw.received
-  pub tips : SharesSet n (p.share tip) totals.tip.received
+  pub draws : SharesSet n (p.share draw) totals.received.draw
+  pub tips : SharesSet n (p.share tip) totals.received.tip
 
 -- the number for each of n places is added to the total there
 pub record RowAdded (n : ℕ) (given : ℕ → ℕ) (before after : List ℕ) : Type 0 where
@@ -43,13 +42,13 @@ pub record RowAdded (n : ℕ) (given : ℕ → ℕ) (before after : List ℕ) : 
 
 -- One side of a pile, with i rows read: the total of each desk is its share and what these rows gave it, and for each of these rows there is what its
 -- desk gave. How many rows are read is other at each call, so it is no fact of the totals' type.
-pub record SideRead (p : Pile) (s : Side) (n i : ℕ) (totals : SideTotals) : Type 0 where
-  pub received_most : (j : ℕ) → j < n → get_or totals.received j 0 ≤ (i + 1) * 4294967296
-  pub given_most : (k : ℕ) → k < i → get_or totals.given k 0 ≤ 34359738368
-  pub received : (j : ℕ) → j < n → get_or totals.received j 0 ≡ p.share s j + sum i (λ k. p.give s k j)
-  pub given : (k : ℕ) → k < i → get_or totals.given k 0 ≡ sum n (p.give s k)
+pub record SideRead (p : Pile) (s : Side) (n i : ℕ) (got gave : List ℕ) : Type 0 where
+  pub received_most : (j : ℕ) → j < n → get_or got j 0 ≤ (i + 1) * 4294967296
+  pub given_most : (k : ℕ) → k < i → get_or gave k 0 ≤ 34359738368
+  pub received : (j : ℕ) → j < n → get_or got j 0 ≡ p.share s j + sum i (λ k. p.give s k j)
+  pub given : (k : ℕ) → k < i → get_or gave k 0 ≡ sum n (p.give s k)
 
 -- both sides of a pile, with i rows read
 pub record RowsRead (p : Pile) (n i : ℕ) (totals : Totals) : Type 0 where
-  pub draws : SideRead p draw n i totals.draw
-  pub tips : SideRead p tip n i totals.tip
+  pub draws : SideRead p draw n i totals.received.draw totals.given.draw
+  pub tips : SideRead p tip n i totals.received.tip totals.given.tip

@@ -52,12 +52,12 @@ fn balance_of(body: Body<'_>, totals: &Totals) -> Balance
             body.bytes,
             row + cell_at(body.n, 0, Side::Tip.earned_column()),
         ));
-        let draw_credit = totals.draw.received[i] + tipped;
-        let tip_credit = totals.tip.received[i] + drawn;
-        if draw_credit < totals.draw.given[i] + drawn {
+        let draw_credit = totals.received.draw[i] + tipped;
+        let tip_credit = totals.received.tip[i] + drawn;
+        if draw_credit < totals.given.draw[i] + drawn {
             covered = false;
         }
-        if tip_credit < totals.tip.given[i] + tipped {
+        if tip_credit < totals.given.tip[i] + tipped {
             covered = false;
         }
         credits += draw_credit + tip_credit;

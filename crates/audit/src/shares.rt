@@ -28,8 +28,8 @@ fn set_shares(body: Body<'_>, side: Side, totals: &mut [u64; DESKS]) -> u64
 fn read_shares(body: Body<'_>, totals: &mut Totals) -> u64
     ensures { SharesRead (pile_of body.entry) body.entry.n result totals.new }
 {
-    set_shares(body, Side::Draw, &mut totals.draw.received)
-        + set_shares(body, Side::Tip, &mut totals.tip.received)
+    set_shares(body, Side::Draw, &mut totals.received.draw)
+        + set_shares(body, Side::Tip, &mut totals.received.tip)
 }
 
 // The same, with small numbers of desks written out, so that the compiler lays out a loop for each. Not with 8 too: measured, that is slower.

@@ -38,8 +38,8 @@ fn read_rows(body: Body<'_>, totals: &mut Totals) -> u64
     let mut own: u64 = 0;
     for i in 0..body.n {
         let place = usize::from(i);
-        totals.draw.given[place] = add_row(body, i, Side::Draw, &mut totals.draw.received);
-        totals.tip.given[place] = add_row(body, i, Side::Tip, &mut totals.tip.received);
+        totals.given.draw[place] = add_row(body, i, Side::Draw, &mut totals.received.draw);
+        totals.given.tip[place] = add_row(body, i, Side::Tip, &mut totals.received.tip);
         own += u64::from(body.give(Side::Draw, i, i)) + u64::from(body.give(Side::Tip, i, i));
     }
     own
@@ -62,12 +62,19 @@ pub(crate) fn read_rows_of(body: Body<'_>, totals: &mut Totals) -> u64
     }
 }
 
-// Is each number in the row of desk i within the limit of a tally?
+// Is each number in the row of desk i within the limit of a tally? Nothing leaves the loop: by `all`, with a closure, a body whose credits come to more than
+// the limit took nearly twice as long.
 fn row_within(body: Body<'_>, i: u8) -> bool
     requires { i < body.n }
     ensures { result ≡ row_small body.entry i }
 {
-    (0..columns_of(body.n)).all(|c| u64::from(body.cell(i + 1, c)) <= TALLY_LIMIT)
+    let mut within = true;
+    for c in 0..columns_of(body.n) {
+        if TALLY_LIMIT < u64::from(body.cell(i + 1, c)) {
+            within = false;
+        }
+    }
+    within
 }
 
 // Is each tally of n rows within its limit?
