@@ -7,7 +7,7 @@ ghost use Rattle.opening.specs.Inner.{number_in, pile_in, book_head, FrontReady,
 
 use crate::given::Given;
 use layout::contents::{put_entry, put_head};
-use layout::head::front_length;
+use layout::head::{front_length, head_for};
 use layout::lengths::body_length;
 use padding::pack;
 
@@ -27,7 +27,7 @@ pub(crate) fn put_front(out: &mut [u8], given: &Given)
     requires { FrontReady given.now out.old }
     ensures { out.new ≡ sets out.old 0 (front_bytes (book_head given.now) (number_in given.now)) }
 {
-    put_head(out, given.head()).unwrap();
+    put_head(out, head_for(given.desks, given.piles)).unwrap();
     put_contents(out, given);
 }
 

@@ -17,4 +17,4 @@ pub unwrap-requires : goal.unwrap-requires
 unwrap-requires c = is_done _ (c.put_head.ensures.answer ∙ head_done _ (room (goal.at.unwrap-requires c).After-put_head))
 
 pub returns : goal.returns
-returns c = put_front c.args.given.now _ (room (goal.at.returns c).After-put_head) c.head.ensures c.put_head.ensures.out c.put_contents.ensures
+returns c = put_front c.args.given.now _ (room (goal.at.returns c).After-put_head) c.head_for.ensures c.put_head.ensures.out c.put_contents.ensures
